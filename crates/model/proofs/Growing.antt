@@ -69,7 +69,7 @@ edge-old a given nd g e h = ap (λ v. cond (signOf e) (a .flip v) v) (signal-old
 pub value-old : (nd : Node) (g : Graph) (env : ℕ → Bool) (n : ℕ) → n ≤ length g → value (nd ∷ g) env n ≡ value g env n
 value-old nd g env n h = signal-old bits env nd g n h
 
-height-old : (nd : Node) (g : Graph) (n : ℕ) → n ≤ length g → height (nd ∷ g) n ≡ height g n
+pub height-old : (nd : Node) (g : Graph) (n : ℕ) → n ≤ length g → height (nd ∷ g) n ≡ height g n
 unfolding heights
 height-old input g n h = at-old 0 0 (heights g) n (omega (arith, length-heights g))
 height-old (gate x y) g n h = at-old 0 _ (heights g) n (omega (arith, length-heights g))

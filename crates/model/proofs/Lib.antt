@@ -15,4 +15,9 @@ pub mod Along
 pub mod Meaning
 pub mod Choosing
 pub mod Growing
+pub mod Searching
+pub mod Signs
+pub mod Deciding
+pub mod Values
+pub mod Inputs
 pub mod Worked
