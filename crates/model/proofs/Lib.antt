@@ -20,4 +20,5 @@ pub mod Signs
 pub mod Deciding
 pub mod Values
 pub mod Inputs
+pub mod Covering
 pub mod Worked
