@@ -124,7 +124,7 @@ search-brings p look join xs ys cs h x y c mx my e =
     row-stays a found ds k r b c m i = k (keyList p c) (r b c m i)
 
 -- a search does not end in a made gate
-abbrev Not-made : Decision → Type 0
+abbrev pub Not-made : Decision → Type 0
 Not-made (folded e) = Unit {0}
 Not-made (shared e) = Unit {0}
 Not-made (merged e) = Unit {0}

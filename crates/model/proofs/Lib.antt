@@ -21,4 +21,5 @@ pub mod Deciding
 pub mod Values
 pub mod Inputs
 pub mod Covering
+pub mod Completing
 pub mod Worked

@@ -119,28 +119,25 @@ module _ (p : ℕ) (m : Limits) (s : State) (w : Well p m s) where
 
   -- ---- a gate
   module _ (a b : ℕ) (ka : nodeOf a ≤ length (s .source)) (kb : nodeOf b ≤ length (s .source)) where
-    x : ℕ
+    abbrev pub x : ℕ
     x = min (mapEdge s a) (mapEdge s b)
 
-    y : ℕ
+    abbrev pub y : ℕ
     y = max (mapEdge s a) (mapEdge s b)
 
     gate-value : (env : ℕ → Bool) → value (gate a b ∷ s .source) env (suc (length (s .source))) ≡ (edgeValue (s .reduced) env x && edgeValue (s .reduced) env y)
-    unfolding x y
     gate-value env =
         signal-gate bits env (s .source) a b ∙ ap₂ _&&_ (edges-equal p m s w env a ka) (edges-equal p m s w env b kb)
         ∙ sym (in-order (edgeValue (s .reduced) env) (mapEdge s a) (mapEdge s b))
 
-    x-known : nodeOf x ≤ length (s .reduced)
-    unfolding x
+    pub x-known : nodeOf x ≤ length (s .reduced)
     x-known = low (cases-lt (mapEdge s a) (mapEdge s b))
       where
         low : (mapEdge s a < mapEdge s b) ⊎ (mapEdge s b ≤ mapEdge s a) → nodeOf (min (mapEdge s a) (mapEdge s b)) ≤ length (s .reduced)
         low (inl z) = let e : min (mapEdge s a) (mapEdge s b) ≡ mapEdge s a = omega arith in subst (λ f. nodeOf f ≤ length (s .reduced)) (sym e) (mapped-known p m s w a)
         low (inr z) = let e : min (mapEdge s a) (mapEdge s b) ≡ mapEdge s b = omega arith in subst (λ f. nodeOf f ≤ length (s .reduced)) (sym e) (mapped-known p m s w b)
 
-    y-known : nodeOf y ≤ length (s .reduced)
-    unfolding y
+    pub y-known : nodeOf y ≤ length (s .reduced)
     y-known = high (cases-lt (mapEdge s a) (mapEdge s b))
       where
         high : (mapEdge s a < mapEdge s b) ⊎ (mapEdge s b ≤ mapEdge s a) → nodeOf (max (mapEdge s a) (mapEdge s b)) ≤ length (s .reduced)
@@ -192,7 +189,6 @@ module _ (p : ℕ) (m : Limits) (s : State) (w : Well p m s) where
         }
 
     pub well-gate : 0 < p → m .leaves ≤ p → (before : Before) → Well p m (sweepGate p before s a b .state)
-    unfolding x y
     well-gate pos fits before =
         well-decided (decide p (s .limits) before (s .reduced) (s .kept) x y)
         (decide-right p (s .limits) before (s .reduced) (s .kept) pos (subst (λ l. l .leaves ≤ p) (sym (w .limits)) fits) (w .reduced-ordered) (w .kept) x y (omega arith) x-known y-known)
