@@ -193,3 +193,117 @@ covered-run p m t es s fit (calling {es = ds} {s = u} {c = c} {a = an} r h) few 
     subst (Covered p) (sym (h .state))
     (covered-step p m fit u (well-run p m t ds u fit r) (covered-run p m t ds u fit r fewer (λ e q a b o f i. marks e q a b o f (List·Memᴰ·tail i))) fewer c
     (λ q a b o f e z. marks (record { before = u; call = c; answer = an }) q a b o f (List·Memᴰ·head refl) e (h .answer ∙ z)))
+
+-- ---- no two nodes are equal or complementary
+-- a node's cut over inputs
+record Node-cut (p : ℕ) (s : State) (n : ℕ) : Type 0 where
+  cut : Cut
+  formed : Formed p cut
+  inputs : Every (Input-node (s .reduced)) (cut .leaves)
+  describes : (env : ℕ → Bool) → valueOf cut (value (s .reduced) env) ≡ value (s .reduced) env n
+  one-of : (cut ≡ trivial p n) ⊎ List·Memᴰ cut (at [] (s .kept) n)
+
+module _ (p : ℕ) (m : Limits) (fit : Fit p m) (s : State) (w : Well p m s) (wide : Wide s) (covered : Covered p s)
+    (one-a-key : (m n : ℕ) (c d : Cut) → List·Memᴰ c (at [] (s .kept) m) → List·Memᴰ d (at [] (s .kept) n) → keyList p c ≡ keyList p d → m ≡ n) where
+
+  node-cut : (n : ℕ) → 0 < n → n ≤ length (s .reduced) → Node-cut p s n
+  node-cut n h k =
+      let f = covered n h k in
+      let c = every-mem (Cut-of p (s .reduced) n) (cutsOf p (s .kept) n) (cuts-of p (s .reduced) (s .kept) n (fit .some) h k (w .kept)) (f .cut) (f .there) in
+      record { cut = f .cut; formed = c .formed; inputs = f .inputs; describes = c .describes; one-of = List·Memᴰ·cases-cons (f .there) }
+
+  some-leaf : (n : ℕ) (c : Node-cut p s n) → 0 < length (c .cut .leaves)
+  some-leaf n c = ⊎-elim
+      (λ (e : c .cut ≡ trivial p n). subst (λ d. 0 < length (d .leaves)) (sym e) (omega arith))
+      (λ (e : List·Memᴰ (c .cut) (at [] (s .kept) n)). omega (arith, every-mem (λ d. 2 ≤ length (d .leaves)) (at [] (s .kept) n) (wide n) (c .cut) e))
+      (c .one-of)
+
+  -- it is no constant
+  not-constant : (n : ℕ) → 0 < n → n ≤ length (s .reduced) → (b : Bool) → ((env : ℕ → Bool) → value (s .reduced) env n ≡ b) → ⊥
+  not-constant n h k b e = go (c .cut .leaves) refl (some-leaf n c)
+    where
+      c : Node-cut p s n
+      c = node-cut n h k
+      flat : (v : ℕ → Bool) → valueOf (c .cut) v ≡ b
+      flat = input-cut-everywhere (s .reduced) (c .cut) (c .inputs) b (λ env. c .describes env ∙ e env)
+      go : (ls : List ℕ) → c .cut .leaves ≡ ls → 0 < length ls → ⊥
+      go [] z q = omega arith
+      go (l ∷ ls) z q = leaf-matters p (c .cut) (c .formed) l (ap (has l) z ∙ rw (eq-eqb l l refl)) (λ v t. flat _ ∙ sym (flat v))
+
+  -- nodes whose cuts have one key are one node
+  one-node : (i j : ℕ) (c : Node-cut p s i) (d : Node-cut p s j) → keyList p (c .cut) ≡ keyList p (d .cut) → i ≡ j
+  one-node i j c d h =
+      let ls : c .cut .leaves ≡ d .cut .leaves = cc in
+      ⊎-elim
+      (λ (e : c .cut ≡ trivial p i). ⊎-elim
+      (λ (f : d .cut ≡ trivial p j). let z : i ∷ [] ≡ j ∷ [] = sym (ap (λ q. q .leaves) e) ∙ ls ∙ ap (λ q. q .leaves) f in cc)
+      (λ (f : List·Memᴰ (d .cut) (at [] (s .kept) j)). let z : 1 ≡ length (d .cut .leaves) = ap (λ q. length (q .leaves)) (sym e) ∙ ap length ls in
+      absurd (omega (arith, every-mem (λ q. 2 ≤ length (q .leaves)) (at [] (s .kept) j) (wide j) (d .cut) f)))
+      (d .one-of))
+      (λ (e : List·Memᴰ (c .cut) (at [] (s .kept) i)). ⊎-elim
+      (λ (f : d .cut ≡ trivial p j). let z : length (c .cut .leaves) ≡ 1 = ap length ls ∙ ap (λ q. length (q .leaves)) f in
+      absurd (omega (arith, every-mem (λ q. 2 ≤ length (q .leaves)) (at [] (s .kept) i) (wide i) (c .cut) e)))
+      (λ (f : List·Memᴰ (d .cut) (at [] (s .kept) j)). one-a-key i j (c .cut) (d .cut) e f h)
+      (d .one-of))
+      (c .one-of)
+
+  equal-nodes : (i j : ℕ) → 0 < i → i ≤ length (s .reduced) → 0 < j → j ≤ length (s .reduced) → ((env : ℕ → Bool) → value (s .reduced) env i ≡ value (s .reduced) env j) → i ≡ j
+  equal-nodes i j hi ki hj kj e =
+      let c = node-cut i hi ki in
+      let d = node-cut j hj kj in
+      one-node i j c d (ap (keyList p) (input-cuts-one p (s .reduced) (c .cut) (d .cut) (c .formed) (d .formed) (c .inputs) (d .inputs) (λ env. c .describes env ∙ e env ∙ sym (d .describes env))))
+
+  opposite-nodes : (i j : ℕ) → 0 < i → i ≤ length (s .reduced) → 0 < j → j ≤ length (s .reduced) → ((env : ℕ → Bool) → value (s .reduced) env i ≡ not (value (s .reduced) env j)) → i ≡ j
+  opposite-nodes i j hi ki hj kj e =
+      let c = node-cut i hi ki in
+      let d = node-cut j hj kj in
+      let k = complements p (d .cut) (d .formed) in
+      let same : c .cut ≡ complementOf p (d .cut) = input-cuts-one p (s .reduced) (c .cut) (complementOf p (d .cut)) (c .formed) (k .formed) (c .inputs) (d .inputs)
+          (λ env. c .describes env ∙ e env ∙ ap not (sym (d .describes env)) ∙ sym (k .means (value (s .reduced) env))) in
+      one-node i j c d (ap (keyList p) same ∙ ap (λ q. q .table ∷ d .cut .leaves) (k .one-key))
+
+  no-equal : (i j : ℕ) → i ≤ length (s .reduced) → j ≤ length (s .reduced) → ((env : ℕ → Bool) → value (s .reduced) env i ≡ value (s .reduced) env j) → i ≡ j
+  no-equal zero zero ki kj e = refl
+  no-equal zero (suc j) ki kj e = absurd (not-constant (suc j) (omega arith) kj false (λ env. sym (e env) ∙ value-zero (s .reduced) env))
+  no-equal (suc i) zero ki kj e = absurd (not-constant (suc i) (omega arith) ki false (λ env. e env ∙ value-zero (s .reduced) env))
+  no-equal (suc i) (suc j) ki kj e = equal-nodes (suc i) (suc j) (omega arith) ki (omega arith) kj e
+
+  never-opposite : (b : Bool) → b ≡ not b → ⊥
+  never-opposite true h = both-ways true h refl
+  never-opposite false h = both-ways false refl h
+
+  no-opposite : (i j : ℕ) → i ≤ length (s .reduced) → j ≤ length (s .reduced) → ((env : ℕ → Bool) → value (s .reduced) env i ≡ not (value (s .reduced) env j)) → ⊥
+  no-opposite zero zero ki kj e = never-opposite (value (s .reduced) (λ _. false) 0) (e (λ _. false))
+  no-opposite zero (suc j) ki kj e = not-constant (suc j) (omega arith) kj true (λ env. sym (Bool·not-not _) ∙ ap not (sym (e env) ∙ value-zero (s .reduced) env))
+  no-opposite (suc i) zero ki kj e = not-constant (suc i) (omega arith) ki true (λ env. e env ∙ ap not (value-zero (s .reduced) env))
+  no-opposite (suc i) (suc j) ki kj e =
+      let z = opposite-nodes (suc i) (suc j) (omega arith) ki (omega arith) kj e in
+      never-opposite (value (s .reduced) (λ _. false) (suc j)) (ap (value (s .reduced) (λ _. false)) (sym z) ∙ e (λ _. false))
+
+  -- edges of equal value are one edge
+  one-edge : (e f : ℕ) → nodeOf e ≤ length (s .reduced) → nodeOf f ≤ length (s .reduced) → ((env : ℕ → Bool) → edgeValue (s .reduced) env e ≡ edgeValue (s .reduced) env f) → e ≡ f
+  one-edge e f ke kf h = go (signOf e) refl (signOf f) refl
+    where
+      values : (t u : Bool) → signOf e ≡ t → signOf f ≡ u → (env : ℕ → Bool) → flipIf t (value (s .reduced) env (nodeOf e)) ≡ flipIf u (value (s .reduced) env (nodeOf f))
+      values t u a b env = ap (λ q. flipIf q (value (s .reduced) env (nodeOf e))) (sym a) ∙ sym (edge-value (s .reduced) env e) ∙ h env ∙ edge-value (s .reduced) env f ∙ ap (λ q. flipIf q (value (s .reduced) env (nodeOf f))) b
+      same : signOf e ≡ signOf f → nodeOf e ≡ nodeOf f → e ≡ f
+      same a b = sym (edge-parts e) ∙ ap₂ (λ n t. edge n t) b a ∙ edge-parts f
+      go : (t : Bool) → signOf e ≡ t → (u : Bool) → signOf f ≡ u → e ≡ f
+      go true a true b = same (a ∙ sym b) (no-equal (nodeOf e) (nodeOf f) ke kf (λ env. sym (Bool·not-not _) ∙ ap not (values true true a b env) ∙ Bool·not-not _))
+      go true a false b = absurd (no-opposite (nodeOf e) (nodeOf f) ke kf (λ env. sym (Bool·not-not _) ∙ ap not (values true false a b env)))
+      go false a true b = absurd (no-opposite (nodeOf e) (nodeOf f) ke kf (λ env. values false true a b env))
+      go false a false b = same (a ∙ sym b) (no-equal (nodeOf e) (nodeOf f) ke kf (λ env. values false false a b env))
+
+  complete-state : Complete s
+  complete-state = record {
+      agree = λ e f ke kf h env. edges-equal p m s w env e ke ∙ ap (edgeValue (s .reduced) env) h ∙ sym (edges-equal p m s w env f kf);
+      one-edge = λ e f ke kf h. one-edge (mapEdge s e) (mapEdge s f) (mapped-known p m s w e) (mapped-known p m s w f)
+        (λ env. sym (edges-equal p m s w env e ke) ∙ h env ∙ edges-equal p m s w env f kf);
+      no-equal = no-equal;
+      no-opposite = no-opposite;
+    }
+
+pub complete-run : (p : ℕ) (m : Limits) (t : Tables) (es : List (Event p)) (s : State) → Fit p m → Run p m t es s
+    → ((m n : ℕ) (c d : Cut) → List·Memᴰ c (at [] (s .kept) m) → List·Memᴰ d (at [] (s .kept) n) → keyList p c ≡ keyList p d → m ≡ n)
+    → inputs (s .source) ≤ m .leaves → Inputs-first p es → Complete s
+complete-run p m t es s fit r one few marks = complete-state p m fit s (well-run p m t es s fit r) (wide-run p m t es s r) (covered-run p m t es s fit r few marks) one
