@@ -22,4 +22,11 @@ pub mod Values
 pub mod Inputs
 pub mod Covering
 pub mod Completing
+pub mod Candidates
+pub mod Reducing
+pub mod Naming
+pub mod Steps
+pub mod Consistent
+pub mod History
+pub mod Sound
 pub mod Worked

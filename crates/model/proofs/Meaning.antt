@@ -74,7 +74,7 @@ squeeze-means : (p : ℕ) (c : Cut) → length (c .leaves) ≤ p → Rising (c .
 unfolding squeeze
 squeeze-means p c few rising rests v = squeeze-value p (c .table) (c .leaves) few rising rests v
 
-squeeze-among : (p : ℕ) (c : Cut) (l : ℕ) → has l (squeeze p c .leaves) ≡ true → has l (c .leaves) ≡ true
+pub squeeze-among : (p : ℕ) (c : Cut) (l : ℕ) → has l (squeeze p c .leaves) ≡ true → has l (c .leaves) ≡ true
 unfolding squeeze
 squeeze-among p c l h =
     let ls = needed p (c .table) 0 (c .leaves) in

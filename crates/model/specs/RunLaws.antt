@@ -13,7 +13,7 @@ use Rattle.model.specs.Keys.{added}
 use Rattle.model.specs.Graphs.{Node, input, gate, Graph, at, inputs, Ordered, value, edgeValue, cutsOf, findKey}
 use Rattle.model.specs.Rankings.{Ranking, Before, Every, First}
 use Rattle.model.specs.Search.{Limits, byLeaves, leafIn, pairs}
-use Rattle.model.specs.Sessions.{State, Tables, Tally, Outcome, was-made, was-folded, was-shared, was-merged, raised, noTally, mapEdge, capacityOf, nodeLimit, outputLimit, step}
+use Rattle.model.specs.Sessions.{positions, lean, State, Tables, Tally, Outcome, was-made, was-folded, was-shared, was-merged, raised, noTally, mapEdge, capacityOf, nodeLimit, outputLimit, step}
 use Rattle.model.specs.Sessions.{Call, input-call, gate-call, output-call, map-call, walk-call, cone-call, Answer, node, swept, mapped-edge, filled, counted, refused, Refusal}
 use Rattle.model.specs.GraphLaws.{Describes}
 use Rattle.model.specs.Runs.{Event, Run, Steps}
@@ -214,5 +214,33 @@ pub record Sound (p : ℕ) (m : Limits) (t : Tables) (es : List (Event p)) (s : 
   pub complete : inputs (s .source) ≤ m .leaves → Inputs-first p es → Complete s
   pub nothing-lost : Nothing-lost p m t es s
 
+abbrev pub Over-runs : ((p : ℕ) → Limits → Tables → List (Event p) → State → Type 0) → Type 0
+Over-runs Law = (p : ℕ) (m : Limits) (t : Tables) (es : List (Event p)) (s : State) → Fit p m → Run p m t es s → Law p m t es s
+
+abbrev pub Runs-have-equal-signals : Type 0
+Runs-have-equal-signals = Over-runs (λ p m t es s. Equal-signals p s)
+
+abbrev pub Runs-reduce-the-graph : Type 0
+Runs-reduce-the-graph = Over-runs (λ p m t es s. Reduced-graph p es s)
+
+abbrev pub Runs-on-few-inputs-are-complete : Type 0
+Runs-on-few-inputs-are-complete = Over-runs (λ p m t es s. inputs (s .source) ≤ m .leaves → Inputs-first p es → Complete s)
+
+abbrev pub Runs-lose-nothing : Type 0
+Runs-lose-nothing = Over-runs (λ p m t es s. Nothing-lost p m t es s)
+
 abbrev pub Every-run-is-sound : Type 0
-Every-run-is-sound = (p : ℕ) (m : Limits) (t : Tables) (es : List (Event p)) (s : State) → Fit p m → Run p m t es s → Sound p m t es s
+Every-run-is-sound = Over-runs Sound
+
+-- what a call means for whole runs: whatever run led to s, with this call it leads to u, and the longer run keeps all laws
+pub record Extends (p : ℕ) (s : State) (c : Call p) (u : State) (a : Answer) : Type 0 where
+  pub steps : Steps p s c u a
+  pub whole : (m : Limits) (t : Tables) (es : List (Event p)) → Fit p m → Run p m t es s
+    → Run p m t (record { before = s; call = c; answer = a } ∷ es) u × Sound p m t (record { before = s; call = c; answer = a } ∷ es) u
+
+abbrev pub Calls-extend-runs : Type 0
+Calls-extend-runs = (p : ℕ) (s : State) (c : Call p) → Extends p s c (step p s c .state) (step p s c .answer)
+
+-- the numbers of a session fit
+abbrev pub Sessions-fit : Type 0
+Sessions-fit = Fit positions lean

@@ -138,7 +138,6 @@ module _ (r : Ranking positions) where
   abbrev equivalence : List (Call positions)
   equivalence = gate-call r 2 5 ∷ gate-call r 3 4 ∷ gate-call r 7 9 ∷ gate-call r 3 5 ∷ gate-call r 2 4 ∷ gate-call r 13 15 ∷ []
 
-  -- comes out otherwise where a table is stretched by a shift: {1,2,4} has the leaf 2 at position 1 and the leaf 4 at position 2
   abbrev pub four-cuts-are-kept-by-height : Session
   four-cuts-are-kept-by-height = record {
       tables = roomFor 8;
@@ -153,7 +152,7 @@ module _ (r : Ranking positions) where
       };
     }
 
-  -- comes out otherwise where the key's sign is forgotten (10), or where keys are matched by leaves alone (the second gate is merged)
+  -- comes out otherwise where the key's sign is forgotten at entry (10), or keys are matched by leaves alone (the second gate is merged)
   abbrev pub complement-merges-with-the-sign : Session
   complement-merges-with-the-sign = record {
       tables = roomFor 8;
@@ -186,6 +185,7 @@ module _ (r : Ranking positions) where
       };
     }
 
+  -- comes out otherwise where a table is stretched by a shift: the leaf 6 joins at another distance than the leaves 4 and 5
   abbrev pub fifth-candidate-is-left-out : Session
   fifth-candidate-is-left-out = record {
       tables = roomFor 9;
@@ -199,6 +199,17 @@ module _ (r : Ranking positions) where
         ∷ record { leaves = 3 ∷ 4 ∷ 5 ∷ 6 ∷ []; table = 0x8000 }
         ∷ record { leaves = 4 ∷ 5 ∷ 7 ∷ []; table = 0x8080 }
         ∷ record { leaves = 3 ∷ 6 ∷ 8 ∷ []; table = 0x8080 } ∷ []) ∷ [];
+      };
+    }
+
+  -- comes out otherwise where the key's sign is forgotten at look-up (10)
+  abbrev pub complement-is-found-through-its-key : Session
+  complement-is-found-through-its-key = record {
+      tables = roomFor 8;
+      calls = two (gate-call r 3 5 ∷ gate-call r 2 4 ∷ gate-call r 7 9 ∷ gate-call r 2 5 ∷ gate-call r 3 4 ∷ gate-call r 13 15 ∷ []);
+      expected = record {
+        answers = two-inputs (swept was-made 6 ∷ swept was-made 8 ∷ swept was-made 10 ∷ swept was-made 12 ∷ swept was-made 14 ∷ swept was-merged 11 ∷ []);
+        kept = [];
       };
     }
 
@@ -216,6 +227,7 @@ module _ (r : Ranking positions) where
     ∷ cone-counts-up-to-the-cap
     ∷ regrouped-product-is-merged
     ∷ fifth-candidate-is-left-out
+    ∷ complement-is-found-through-its-key
     ∷ []
 
 -- the example net, and the report that a session of its calls has, line by line

@@ -3,6 +3,7 @@
 ghost use Rattle.model.specs.CutLaws.{Tables-read-back, Meanings-tabulate, Stretching-keeps-meaning, Squeezing-keeps-what-matters, Joining-is-and, Joined-words, One-meaning-one-cut, Trivial-cut-is-its-node, Complements-share-a-key};
 ghost use Rattle.model.specs.ChoiceLaws.{Choosing-keeps-the-first};
 ghost use Rattle.model.specs.GraphLaws.{Growing-changes-nothing-earlier, Cuts-stay, Capacity-is-largest};
+ghost use Rattle.model.specs.RunLaws.{Runs-have-equal-signals, Runs-reduce-the-graph, Runs-on-few-inputs-are-complete, Runs-lose-nothing, Deterministic, Every-run-is-sound, Calls-extend-runs, Sessions-fit};
 ghost use Rattle.model.specs.Worked.{Worked-sessions};
 
 // What was tabulated over some leaves is read back under every valuation of them.
@@ -99,6 +100,62 @@ pub fn capacity_is_largest() -> u8
 // The definitions yield the table of worked sessions and the example's report.
 pub fn worked_sessions() -> u8
     ensures { λ _. ⌜ Worked-sessions ⌝ }
+{
+    0
+}
+
+// After every run each source node has the value of its mapped edge, and cuts and keys describe their nodes.
+pub fn equal_signals_over_runs() -> u8
+    ensures { λ _. ⌜ Runs-have-equal-signals ⌝ }
+{
+    0
+}
+
+// After every run the graph is reduced, each gate kept the first of its candidates, and the tally is that of the history.
+pub fn reduced_graph_over_runs() -> u8
+    ensures { λ _. ⌜ Runs-reduce-the-graph ⌝ }
+{
+    0
+}
+
+// With few inputs and inputs-first rankings, edges have one reduced edge exactly where they agree.
+pub fn complete_on_few_inputs() -> u8
+    ensures { λ _. ⌜ Runs-on-few-inputs-are-complete ⌝ }
+{
+    0
+}
+
+// After every run the source is the accepted calls, numbers are in range, and no refused call changed anything.
+pub fn nothing_lost_over_runs() -> u8
+    ensures { λ _. ⌜ Runs-lose-nothing ⌝ }
+{
+    0
+}
+
+// Two runs of the same calls, by rankings of equal relation, give equal states and answers.
+pub fn runs_are_deterministic() -> u8
+    ensures { λ _. ⌜ Deterministic ⌝ }
+{
+    0
+}
+
+// Every run keeps all the laws.
+pub fn every_run_is_sound() -> u8
+    ensures { λ _. ⌜ Every-run-is-sound ⌝ }
+{
+    0
+}
+
+// Whatever run led to a state, with any call it leads to the state after it, and that run keeps all the laws.
+pub fn calls_extend_runs() -> u8
+    ensures { λ _. ⌜ Calls-extend-runs ⌝ }
+{
+    0
+}
+
+// The numbers of a session fit the premise of the laws.
+pub fn sessions_fit() -> u8
+    ensures { λ _. ⌜ Sessions-fit ⌝ }
 {
     0
 }

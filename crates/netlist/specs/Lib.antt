@@ -1,0 +1,4 @@
+pub mod Net
+pub mod Reading
+pub mod Refusals
+pub mod Shape
