@@ -1,11 +1,11 @@
 -- The bits of AND, OR, XOR, complement, shifts and remainders, and equality by bits, at any width. Assumes nothing.
-use mathlib.Core.Path.{_≡_, refl, sym, ap, _∙_, subst}
-use mathlib.Core.Bool.{Bool, true, false, not, cond, _&&_, _||_}
-use Prim.Native.Nat.{ℕ, zero, suc, _+_, _-_, _*_, _/_, _%_, _^_, _<_, _≤_, min, max}
-use native.Mathlib.Nat.{pow-suc, suc-add, zero-add, add-zero, mul-comm, mod-eq-of-lt}
+use mathlib.Core.Path.{_≡_, refl, sym, ap, _∙_}
+use mathlib.Core.Bool.{Bool, true, false, not, _&&_, _||_}
+use Prim.Native.Nat.{ℕ, zero, suc, _+_, _-_, _*_, _/_, _%_, _^_, _<_, min, max}
+use native.Mathlib.Nat.{pow-suc, suc-add, zero-add}
 use native.Mathlib.Omega.{arith}
 use lib.Dec.{eqb}
-use lib.Pow.{pow-pos, field, mod-mod-pow, shr-shr, shl-shr, pow-add}
+use lib.Pow.{field, mod-mod-pow, shr-shr, shl-shr}
 use lib.Bits.{bitAnd, bitOr, bitXor, and-shr, or-shr, xor-shr, and-step, or-step, xor-step, shifted-half, shifted-even, differ}
 use Rattle.std.proofs.shelf.Tests.{eqb-true, eqb-false, eq-eqb, ne-eqb}
 use Rattle.model.specs.Tables.{bitAt, flipIf, number, rowsFrom}
@@ -17,47 +17,31 @@ module _ (op : ℕ → ℕ → ℕ) (f : Bool → Bool → Bool)
   bit-op a b zero = lows a b
   bit-op a b (suc j) = ap (λ n. bitAt n j) (halves a b) ∙ bit-op (a / 2) (b / 2) j
 
-min-test : (p q : ℕ) → p < 2 → q < 2 → eqb (min p q) 1 ≡ (eqb p 1 && eqb q 1)
-min-test zero zero h k = refl
-min-test zero (suc zero) h k = refl
-min-test (suc zero) zero h k = refl
-min-test (suc zero) (suc zero) h k = refl
-min-test (suc (suc p)) q h k = absurd (omega arith)
-min-test zero (suc (suc q)) h k = absurd (omega arith)
-min-test (suc zero) (suc (suc q)) h k = absurd (omega arith)
-
-max-test : (p q : ℕ) → p < 2 → q < 2 → eqb (max p q) 1 ≡ (eqb p 1 || eqb q 1)
-max-test zero zero h k = refl
-max-test zero (suc zero) h k = refl
-max-test (suc zero) zero h k = refl
-max-test (suc zero) (suc zero) h k = refl
-max-test (suc (suc p)) q h k = absurd (omega arith)
-max-test zero (suc (suc q)) h k = absurd (omega arith)
-max-test (suc zero) (suc (suc q)) h k = absurd (omega arith)
-
-differ-test : (p q : ℕ) → p < 2 → q < 2 → (eqb (differ p q) 1 ≡ flipIf (eqb p 1) (eqb q 1)) × (differ p q < 2)
-differ-test zero zero h k = (refl, omega arith)
-differ-test zero (suc zero) h k = (refl, omega arith)
-differ-test (suc zero) zero h k = (refl, omega arith)
-differ-test (suc zero) (suc zero) h k = (refl, omega arith)
-differ-test (suc (suc p)) q h k = absurd (omega arith)
-differ-test zero (suc (suc q)) h k = absurd (omega arith)
-differ-test (suc zero) (suc (suc q)) h k = absurd (omega arith)
+-- what holds of the four pairs of bits
+bits-both : (P : ℕ → ℕ → Type 0) → P 0 0 → P 0 1 → P 1 0 → P 1 1 → (p q : ℕ) → p < 2 → q < 2 → P p q
+bits-both P a b c d zero zero h k = a
+bits-both P a b c d zero (suc zero) h k = b
+bits-both P a b c d (suc zero) zero h k = c
+bits-both P a b c d (suc zero) (suc zero) h k = d
+bits-both P a b c d (suc (suc p)) q h k = absurd (omega arith)
+bits-both P a b c d zero (suc (suc q)) h k = absurd (omega arith)
+bits-both P a b c d (suc zero) (suc (suc q)) h k = absurd (omega arith)
 
 pub bit-and : (a b j : ℕ) → bitAt (bitAnd a b) j ≡ (bitAt a j && bitAt b j)
 bit-and = bit-op bitAnd _&&_ (λ a b. and-shr a b 1)
     (λ a b. let e : bitAnd a b % 2 ≡ min (a % 2) (b % 2) = omega (arith, and-step a b) in
-    ap (λ n. eqb n 1) e ∙ min-test (a % 2) (b % 2) (omega arith) (omega arith))
+    ap (λ n. eqb n 1) e ∙ bits-both (λ p q. eqb (min p q) 1 ≡ (eqb p 1 && eqb q 1)) refl refl refl refl (a % 2) (b % 2) (omega arith) (omega arith))
 
 pub bit-or : (a b j : ℕ) → bitAt (bitOr a b) j ≡ (bitAt a j || bitAt b j)
 bit-or = bit-op bitOr _||_ (λ a b. or-shr a b 1)
     (λ a b. let e : bitOr a b % 2 ≡ max (a % 2) (b % 2) = omega (arith, or-step a b) in
-    ap (λ n. eqb n 1) e ∙ max-test (a % 2) (b % 2) (omega arith) (omega arith))
+    ap (λ n. eqb n 1) e ∙ bits-both (λ p q. eqb (max p q) 1 ≡ (eqb p 1 || eqb q 1)) refl refl refl refl (a % 2) (b % 2) (omega arith) (omega arith))
 
 pub bit-xor : (a b j : ℕ) → bitAt (bitXor a b) j ≡ flipIf (bitAt a j) (bitAt b j)
 bit-xor = bit-op bitXor flipIf (λ a b. xor-shr a b 1)
     (λ a b.
-    let d = differ-test (a % 2) (b % 2) (omega arith) (omega arith) in
+    let d = bits-both (λ p q. (eqb (differ p q) 1 ≡ flipIf (eqb p 1) (eqb q 1)) × (differ p q < 2)) (refl, omega arith) (refl, omega arith) (refl, omega arith) (refl, omega arith)
+    (a % 2) (b % 2) (omega arith) (omega arith) in
     let e : bitXor a b % 2 ≡ differ (a % 2) (b % 2) = omega (arith, xor-step a b, d .1) in
     ap (λ n. eqb n 1) e ∙ d .0)
 

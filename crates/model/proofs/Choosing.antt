@@ -1,22 +1,25 @@
 -- The chosen are the first of a stable order, and only they are.
 use mathlib.Core.Path.{_≡_, refl, sym, ap, ap₂, _∙_, subst}
-use mathlib.Core.Bool.{Bool, true, false, not, cond, _&&_, _||_, or-assoc}
-use mathlib.Core.List.{List, [], _∷_, map}
+use mathlib.Core.Bool.{Bool, true, false, not, cond, _&&_, _||_, or-false, or-assoc}
+use mathlib.Core.List.{List, [], _∷_, map, List·Memᴰ, List·Memᴰ·head, Memᴰ·map, Memᴰ·of-map, Memᴰ·cast}
 use mathlib.Core.Logic.{_⊎_, inl, inr, ⊎-elim}
-use Prim.Native.Nat.{ℕ, zero, suc, _+_, _-_, _<_, _≤_, min}
+use Prim.Native.Nat.{ℕ, zero, suc, _+_, _<_, _≤_, min}
 use native.Mathlib.Omega.{arith}
 use lib.Dec.{eqb, ltb}
 use lib.ListN.{length, getD, take, length-take}
 use lib.Seq.{getD-take}
-use Rattle.std.proofs.shelf.Tests.{lt-ltb, le-ltb, ltb-true, eq-eqb, ne-eqb, eqb-true, cases-eq, cases-lt, cases-bool, both-ways}
+use Rattle.std.proofs.shelf.Lists.{take-map}
+use Rattle.std.proofs.shelf.Tests.{lt-ltb, ltb-true, eq-eqb, ne-eqb, eqb-true, cases-eq, cases-lt, cases-bool, both-ways, cond-both, or-parts}
 use Rattle.model.specs.Tables.{span}
 use Rattle.model.specs.Leaves.{has, place}
-use Rattle.model.specs.Rankings.{rankIn, ranked, firstBy, precedes, First, WeakOrder, Every}
+use Rattle.model.specs.Rankings.{rankIn, ranked, firstBy, First, WeakOrder, Every}
 use Rattle.model.specs.Rankings.{Ranking, LeafFacts, Sized}
 use Rattle.model.specs.Cuts.{Cut}
 use Rattle.model.specs.Search.{byLeaves}
 use Rattle.model.specs.ChoiceLaws.{Choosing-keeps-the-first}
+use Rattle.model.proofs.Positions.{length-span}
 use Rattle.model.proofs.Places.{place-in, has-at}
+use Rattle.model.proofs.Lists.{or-swap, place-mem, mem-place, every-at, every-rankIn, every-weaken, every-in, every-from}
 use Rattle.model.proofs.Ranks.{ranked-map}
 
 -- by places alone: i comes before j
@@ -28,69 +31,28 @@ abbrev Pairwise : (ℕ → ℕ → Bool) → List ℕ → Type 0
 Pairwise test [] = Unit {0}
 Pairwise test (x ∷ xs) = Every (λ y. test x y ≡ true) xs × Pairwise test xs
 
-pub every-in : (P : ℕ → Type 0) (xs : List ℕ) (l : ℕ) → Every P xs → has l xs ≡ true → P l
-every-in P [] l e h = absurd (both-ways false refl h)
-every-in P (x ∷ xs) l e h = go (eqb l x) refl h (every-in P xs l (e .1))
-  where
-    go : (b : Bool) → eqb l x ≡ b → (b || has l xs) ≡ true → (has l xs ≡ true → P l) → P l
-    go true q _ f = subst P (sym (eqb-true l x q)) (e .0)
-    go false q k f = f k
-
-pub every-from : (P : ℕ → Type 0) (xs : List ℕ) → ((l : ℕ) → has l xs ≡ true → P l) → Every P xs
-every-from P [] h = tt
-every-from P (x ∷ xs) h = (h x (rw (eq-eqb x x refl)), every-from P xs (λ l e. h l (later (eqb l x) (has l xs) e)))
-  where
-    later : (a b : Bool) → b ≡ true → (a || b) ≡ true
-    later true b e = refl
-    later false b e = e
-
-every-map : (P Q : ℕ → Type 0) (xs : List ℕ) → ((l : ℕ) → P l → Q l) → Every P xs → Every Q xs
-every-map P Q [] f e = tt
-every-map P Q (x ∷ xs) f e = (f x (e .0), every-map P Q xs f (e .1))
-
-every-rankIn : (P : ℕ → Type 0) (before : ℕ → ℕ → Bool) (x : ℕ) (ys : List ℕ) → P x → Every P ys → Every P (rankIn before x ys)
-unfolding rankIn
-every-rankIn P before x [] p e = (p, tt)
-every-rankIn P before x (y ∷ ys) p e = go (before x y) (every-rankIn P before x ys p (e .1))
-  where
-    go : (b : Bool) → Every P (rankIn before x ys) → Every P (cond b (x ∷ (y ∷ ys)) (y ∷ rankIn before x ys))
-    go true h = (p, e)
-    go false h = (e .0, h)
-
 has-rankIn : (before : ℕ → ℕ → Bool) (l x : ℕ) (ys : List ℕ) → has l (rankIn before x ys) ≡ (eqb l x || has l ys)
 unfolding rankIn
 has-rankIn before l x [] = refl
 has-rankIn before l x (y ∷ ys) = go (before x y) (has-rankIn before l x ys)
   where
-    swap : (a b c : Bool) → (b || (a || c)) ≡ (a || (b || c))
-    swap true true c = refl
-    swap true false c = refl
-    swap false b c = refl
     go : (b : Bool) → has l (rankIn before x ys) ≡ (eqb l x || has l ys) → has l (cond b (x ∷ (y ∷ ys)) (y ∷ rankIn before x ys)) ≡ (eqb l x || (eqb l y || has l ys))
     go true h = refl
-    go false h = ap (λ c. eqb l y || c) h ∙ swap (eqb l x) (eqb l y) (has l ys)
+    go false h = ap (λ c. eqb l y || c) h ∙ or-swap (eqb l y) (eqb l x) (has l ys)
 
-length-rankIn : (before : ℕ → ℕ → Bool) (x : ℕ) (ys : List ℕ) → length (rankIn before x ys) ≡ suc (length ys)
+length-rankIn : {A : Type 0} (before : A → A → Bool) (x : A) (ys : List A) → length (rankIn before x ys) ≡ suc (length ys)
 unfolding rankIn
 length-rankIn before x [] = refl
-length-rankIn before x (y ∷ ys) = go (before x y) (length-rankIn before x ys)
-  where
-    go : (b : Bool) → length (rankIn before x ys) ≡ suc (length ys) → length (cond b (x ∷ (y ∷ ys)) (y ∷ rankIn before x ys)) ≡ suc (suc (length ys))
-    go true h = refl
-    go false h = ap suc h
+length-rankIn {A} before x (y ∷ ys) =
+    cond-both (before x y) _ _ (λ (zs : List A). length zs ≡ suc (suc (length ys))) (λ _. refl) (λ _. ap suc (length-rankIn before x ys))
 
 has-ranked : (before : ℕ → ℕ → Bool) (l : ℕ) (xs done : List ℕ) → has l (ranked before xs done) ≡ (has l xs || has l done)
 unfolding ranked
 has-ranked before l [] done = refl
 has-ranked before l (x ∷ xs) done =
-    has-ranked before l xs (rankIn before x done) ∙ ap (λ c. has l xs || c) (has-rankIn before l x done) ∙ swap (eqb l x) (has l xs) (has l done)
-  where
-    swap : (a b c : Bool) → (b || (a || c)) ≡ (a || b || c)
-    swap true true c = refl
-    swap true false c = refl
-    swap false b c = refl
+    has-ranked before l xs (rankIn before x done) ∙ ap (λ c. has l xs || c) (has-rankIn before l x done) ∙ or-swap (has l xs) (eqb l x) (has l done) ∙ sym (or-assoc (eqb l x) (has l xs) (has l done))
 
-length-ranked : (before : ℕ → ℕ → Bool) (xs done : List ℕ) → length (ranked before xs done) ≡ length xs + length done
+length-ranked : {A : Type 0} (before : A → A → Bool) (xs done : List A) → length (ranked before xs done) ≡ length xs + length done
 unfolding ranked
 length-ranked before [] done = omega arith
 length-ranked before (x ∷ xs) done = length-ranked before xs (rankIn before x done) ∙ omega (arith, length-rankIn before x done)
@@ -114,7 +76,6 @@ module _ (before : ℕ → ℕ → Bool) (len : ℕ)
     (irreflexive : (i : ℕ) → i < len → before i i ≡ false)
     (transitive : (i j k : ℕ) → i < len → j < len → k < len → before i j ≡ true → before j k ≡ true → before i k ≡ true)
     (ties : (i j k : ℕ) → i < len → j < len → k < len → before i j ≡ false → before j i ≡ false → before j k ≡ false → before k j ≡ false → before i k ≡ false) where
-
   -- the ways that i can come before j
   ways : (i j : ℕ) → comes before i j ≡ true → (before i j ≡ true) ⊎ ((before j i ≡ false) × (i < j))
   ways i j h = go (before i j) refl (before j i) refl (ltb i j) refl h
@@ -171,9 +132,11 @@ module _ (before : ℕ → ℕ → Bool) (len : ℕ)
     where
       hy : y < len
       hy = omega (arith, low .0)
+
       further : (zs : List ℕ) → before x y ≡ true → Every (λ z. z < x) zs → Every (λ z. comes before y z ≡ true) zs → Every (λ z. comes before x z ≡ true) zs
       further [] e a b = tt
       further (z ∷ zs) e a b = (by-rank x z (passes x y z hx hy (omega (arith, a .0)) e (b .0)), further zs e (a .1) (b .1))
+
       go : (b : Bool) → before x y ≡ b → Pairwise (comes before) (rankIn before x ys) → Pairwise (comes before) (cond b (x ∷ (y ∷ ys)) (y ∷ rankIn before x ys))
       go true e ih = ((by-rank x y e, further ys e (low .1) (p .0)), p)
       go false e ih = (every-rankIn (λ z. comes before y z ≡ true) before x ys (by-age y x e (low .0)) (p .0), ih)
@@ -183,7 +146,7 @@ module _ (before : ℕ → ℕ → Bool) (len : ℕ)
   ranked-pairwise k zero done h low p = p
   ranked-pairwise k (suc n) done h low p =
       ranked-pairwise (suc k) n (rankIn before k done) (omega arith)
-      (every-rankIn (λ y. y < suc k) before k done (omega arith) (every-map (λ y. y < k) (λ y. y < suc k) done (λ l z. omega arith) low))
+      (every-rankIn (λ y. y < suc k) before k done (omega arith) (every-weaken (λ y. y < k) (λ y. y < suc k) done (λ l z. omega arith) low))
       (insert-pairwise k done (omega arith) low p)
 
   -- ---- only one list is in this order with all others behind it
@@ -209,19 +172,20 @@ module _ (before : ℕ → ℕ → Bool) (len : ℕ)
       (heads ps p q (bq .0) op rp z) (heads qs q p (bp .0) oq rq (λ y. z (sym y)))))
       (cases-eq p q)
     where
-      or-false-left : (a b : Bool) → (a || b) ≡ false → (a ≡ false) × (b ≡ false)
-      or-false-left true b h = absurd (both-ways true h refl)
-      or-false-left false b h = (refl, h)
       ungone : (i x : ℕ) → has i (x ∷ gone) ≡ false → has i gone ≡ false
-      ungone i x h = or-false-left (eqb i x) (has i gone) h .1
+      ungone i x h = or-parts (eqb i x) (has i gone) h .1
+
       out : (i x : ℕ) → has i (x ∷ gone) ≡ false → i ≡ x → ⊥
-      out i x h y = both-ways (eqb i x) (or-false-left (eqb i x) (has i gone) h .0) (eq-eqb i x y)
+      out i x h y = both-ways (eqb i x) (or-parts (eqb i x) (has i gone) h .0) (eq-eqb i x y)
+
       hasnt : (i x : ℕ) (b : Bool) → (i ≡ x → ⊥) → b ≡ false → (eqb i x || b) ≡ false
       hasnt i x b n h = rw (ne-eqb i x n) h
+
       fresh : (xs : List ℕ) (x : ℕ) → x < len → Every (λ l. (l < len) × (has l gone ≡ false)) xs → Every (λ l. comes before x l ≡ true) xs → Every (λ l. (l < len) × (has l (x ∷ gone) ≡ false)) xs
       fresh [] x h b o = tt
       fresh (y ∷ ys) x h b o =
           ((b .0 .0, hasnt y x (has y gone) (λ w. asymmetric x y h (b .0 .0) (o .0) (subst (λ m. comes before y m ≡ true) w (subst (λ m. comes before m y ≡ true) (sym w) (o .0)))) (b .0 .1)), fresh ys x h (b .1) (o .1))
+
       -- the head of a list comes before the head of the other
       heads : (xs : List ℕ) (x y : ℕ) → (y < len) × (has y gone ≡ false) → Pairwise (comes before) (x ∷ xs)
           → ((i : ℕ) → i < len → has i gone ≡ false → has i (x ∷ xs) ≡ false → Every (λ l. comes before l i ≡ true) (x ∷ xs)) → (x ≡ y → ⊥) → comes before x y ≡ true
@@ -239,14 +203,9 @@ pairwise-at test (x ∷ xs) p (suc q) (suc r) h k = pairwise-at test xs (p .1) q
 pairwise-from : (test : ℕ → ℕ → Bool) (xs : List ℕ) → ((q r : ℕ) → q < r → r < length xs → test (getD xs q 0) (getD xs r 0) ≡ true) → Pairwise test xs
 pairwise-from test [] h = tt
 pairwise-from test (x ∷ xs) h = (
-    every-from (λ y. test x y ≡ true) xs (λ l e. let z = place-in l xs e in subst (λ y. test x y ≡ true) (z .0) (h 0 (suc (place l xs)) (omega arith) (omega (arith, z .1)))),
-    pairwise-from test xs (λ q r a b. h (suc q) (suc r) (omega arith) (omega arith)),
-  )
-
-pub every-at : {A : Type 0} (P : A → Type 0) (d : A) (xs : List A) (i : ℕ) → Every P xs → i < length xs → P (getD xs i d)
-every-at P d [] i e h = absurd (omega arith)
-every-at P d (x ∷ xs) zero e h = e .0
-every-at P d (x ∷ xs) (suc i) e h = every-at P d xs i (e .1) (omega arith)
+  every-from (λ y. test x y ≡ true) xs (λ l e. let z = place-in l xs e in subst (λ y. test x y ≡ true) (z .0) (h 0 (suc (place l xs)) (omega arith) (omega (arith, z .1)))),
+  pairwise-from test xs (λ q r a b. h (suc q) (suc r) (omega arith) (omega arith)),
+)
 
 -- the list by its places
 by-places : {A : Type 0} (d : A) (xs : List A) → map (λ i. getD xs i d) (span 0 (length xs)) ≡ xs
@@ -256,15 +215,6 @@ by-places d (x ∷ xs) = ap (λ l. x ∷ l) (shifted (length xs) 0 ∙ by-places
     shifted : (n k : ℕ) → map (λ i. getD (x ∷ xs) i d) (span (suc k) n) ≡ map (λ i. getD xs i d) (span k n)
     shifted zero k = refl
     shifted (suc n) k = ap (λ l. getD xs k d ∷ l) (shifted n (suc k))
-
-map-take : {A B : Type 0} (f : A → B) (n : ℕ) (xs : List A) → map f (take n xs) ≡ take n (map f xs)
-map-take f zero xs = refl
-map-take f (suc n) [] = refl
-map-take f (suc n) (x ∷ xs) = ap (λ l. f x ∷ l) (map-take f n xs)
-
-length-span : (k n : ℕ) → length (span k n) ≡ n
-length-span k zero = refl
-length-span k (suc n) = ap suc (length-span (suc k) n)
 
 module _ {A : Type 0} (P : A → Type 0) (before : A → A → Bool) (w : WeakOrder P before) (d : A) (xs : List A) (every : Every P xs) where
   at-places : ℕ → ℕ → Bool
@@ -295,11 +245,7 @@ module _ {A : Type 0} (P : A → Type 0) (before : A → A → Bool) (w : WeakOr
 
   order-has : (l : ℕ) → has l order ≡ has l (span 0 (length xs))
   unfolding order
-  order-has l = has-ranked at-places l (span 0 (length xs)) [] ∙ none (has l (span 0 (length xs)))
-    where
-      none : (b : Bool) → (b || false) ≡ b
-      none true = refl
-      none false = refl
+  order-has l = has-ranked at-places l (span 0 (length xs)) [] ∙ or-false (has l (span 0 (length xs)))
 
   order-length : length order ≡ length xs
   unfolding order
@@ -319,7 +265,7 @@ module _ {A : Type 0} (P : A → Type 0) (before : A → A → Bool) (w : WeakOr
       let few : length (take n order) ≡ min n (length xs) = length-take n order ∙ ap (min n) order-length in
       record {
         places = take n order;
-        are = ap (take n) are-ranked ∙ sym (map-take (λ i. getD xs i d) n order);
+        are = ap (take n) are-ranked ∙ take-map (λ i. getD xs i d) n order;
         many = few;
         found = λ q h. subst (λ l. l < length xs) (sym (getD-take n order q 0 (omega (arith, few)))) (order-below q (omega (arith, few, order-length)));
         order = λ q r h k. ap₂ (λ a b. comes at-places a b) (getD-take n order q 0 (omega (arith, few))) (getD-take n order r 0 (omega (arith, few))) ∙ pairwise-at (comes at-places) order order-pairwise q r h (omega (arith, few, order-length));
@@ -351,8 +297,10 @@ module _ {A : Type 0} (P : A → Type 0) (before : A → A → Bool) (w : WeakOr
           (λ (z : (q : ℕ) × (q < length (p .places)) × (getD (p .places) q 0 ≡ i)). absurd (both-ways (has i (p .places)) k (subst (λ l. has l (p .places) ≡ true) (z .2) (has-at (p .places) (z .0) (z .1)))))
           (λ (z : (q : ℕ) → q < length (p .places) → comes at-places (getD (p .places) q 0) i ≡ true). every-from (λ l. comes at-places l i ≡ true) (p .places) (λ l e. let y = place-in l (p .places) e in subst (λ m. comes at-places m i ≡ true) (y .0) (z (place l (p .places)) (y .1))))
           (p .rest i h)
+
       inside : (ms : List A) (p : First before n d xs ms) → Every (λ l. (l < length xs) × (has l [] ≡ false)) (p .places)
       inside ms p = every-from (λ l. (l < length xs) × (has l [] ≡ false)) (p .places) (λ l e. let y = place-in l (p .places) e in (subst (λ m. m < length xs) (y .0) (p .found (place l (p .places)) (y .1)), refl))
+
       same : f .places ≡ g .places
       same = only at-places (length xs) irr tra tie [] (f .places) (g .places) (f .many ∙ sym (g .many)) (inside ks f) (inside ls g)
           (pairwise-from (comes at-places) (f .places) (f .order)) (pairwise-from (comes at-places) (g .places) (g .order)) (behind ks f) (behind ls g)
@@ -360,10 +308,10 @@ module _ {A : Type 0} (P : A → Type 0) (before : A → A → Bool) (w : WeakOr
 -- a ranking of cuts by their leaves' facts keeps the order laws
 ranking-orders : (p : ℕ) (r : Ranking p) (leaf : ℕ → LeafFacts) → WeakOrder (λ c. Sized p (map leaf (c .leaves))) (byLeaves (r .before) leaf)
 ranking-orders p r leaf = record {
-    irreflexive = λ a. r .lawful .irreflexive (map leaf (a .leaves));
-    transitive = λ a b c. r .lawful .transitive (map leaf (a .leaves)) (map leaf (b .leaves)) (map leaf (c .leaves));
-    ties = λ a b c. r .lawful .ties (map leaf (a .leaves)) (map leaf (b .leaves)) (map leaf (c .leaves));
-  }
+  irreflexive = λ a. r .lawful .irreflexive (map leaf (a .leaves));
+  transitive = λ a b c. r .lawful .transitive (map leaf (a .leaves)) (map leaf (b .leaves)) (map leaf (c .leaves));
+  ties = λ a b c. r .lawful .ties (map leaf (a .leaves)) (map leaf (b .leaves)) (map leaf (c .leaves));
+}
 
 pub choosing : Choosing-keeps-the-first
 choosing p r leaf n d cs every =
@@ -375,3 +323,30 @@ choosing p r leaf n d cs every =
       only = λ ks f. one-first P before w d cs every n ks (firstBy before n cs) f (first-by P before w d cs every n);
       none = none-before P before w d cs every n;
     }
+
+-- the same by members: none left out ranks before one that is kept
+pub none-left-out : (p : ℕ) (r : Ranking p) (leaf : ℕ → LeafFacts) (n : ℕ) (cs : List Cut) → Every (λ c. Sized p (map leaf (c .leaves))) cs
+    → (c k : Cut) → List·Memᴰ c cs → List·Memᴰ k (firstBy (byLeaves (r .before) leaf) n cs)
+    → List·Memᴰ c (firstBy (byLeaves (r .before) leaf) n cs) ⊎ (byLeaves (r .before) leaf c k ≡ false)
+none-left-out p r leaf n cs every c k i j =
+    let before : Cut → Cut → Bool = byLeaves (r .before) leaf in
+    let choice = choosing p r leaf n c cs every in
+    let f = choice .first in
+    let at-c = mem-place c cs c i in
+    let in-k = Memᴰ·of-map (λ q. getD cs q c) (f .places) (subst (List·Memᴰ k) (f .are) j) in
+    let at-k = mem-place 0 (f .places) (in-k .0) (in-k .1) in
+    ⊎-elim
+    (λ (z : (q : ℕ) × (q < length (f .places)) × (getD (f .places) q 0 ≡ at-c .0)).
+    let there = Memᴰ·map (λ q. getD cs q c) (place-mem 0 (f .places) (z .0) (z .1)) in
+    inl (subst (List·Memᴰ c) (sym (f .are)) (Memᴰ·cast (sym (ap (λ q. getD cs q c) (z .2) ∙ at-c .2)) there)))
+    (λ (z : before (getD cs (at-c .0) c) (getD cs (getD (f .places) (at-k .0) 0) c) ≡ false).
+    inr (ap₂ before (sym (at-c .2)) (sym (ap (λ q. getD cs q c) (at-k .2) ∙ in-k .2)) ∙ z))
+    (choice .none (firstBy before n cs) f (at-c .0) (at-k .0) (at-c .1) (at-k .1))
+
+-- where one is to be chosen, one is
+pub some-chosen : {A : Type 0} (before : A → A → Bool) (n : ℕ) (cs : List A) → 0 < n → 0 < length cs → (k : A) × List·Memᴰ k (firstBy before n cs)
+some-chosen {A} before n cs h k = head (firstBy before n cs) (omega (arith, length-take n (ranked before cs []), length-ranked before cs []))
+  where
+    head : (xs : List A) → 0 < length xs → (x : A) × List·Memᴰ x xs
+    head [] z = absurd (omega arith)
+    head (x ∷ xs) z = (x, List·Memᴰ·head refl)

@@ -1,12 +1,10 @@
 -- The facts of a session's own tables that every call keeps: orders, lengths, and that every mapped edge names a reduced node.
 use mathlib.Core.Path.{_≡_, refl, sym, ap, _∙_, subst}
 use mathlib.Core.Bool.{false}
-use mathlib.Core.List.{List, [], _∷_}
+use mathlib.Core.List.{List}
 use Prim.Native.Nat.{ℕ, suc, _<_, _≤_}
 use native.Mathlib.Omega.{arith}
 use lib.ListN.{length}
-use lib.Dec.{eqb}
-use Rattle.std.proofs.shelf.Tests.{cond-both}
 use Rattle.model.specs.Edges.{nodeOf, signOf}
 use Rattle.model.specs.Cuts.{Cut}
 use Rattle.model.specs.Graphs.{Graph, at, inputs, Ordered}
@@ -15,7 +13,7 @@ use Rattle.model.specs.Search.{Decision, folded, shared, merged, made, Limits,
 use Rattle.model.specs.Sessions.{State, Tables, Call, After, mapEdge, edgeOf, reducedAfter, keptAfter, openedWith, withInput, withGate, withOutput, step}
 use Rattle.model.specs.RunLaws.{lowFanin, highFanin}
 use Rattle.model.specs.Runs.{Event, Run, opening, calling}
-use Rattle.model.proofs.Searching.{every-both}
+use Rattle.model.proofs.Lists.{every-number, every-weaken}
 use Rattle.model.proofs.Signs.{node-edge, node-signed}
 use Rattle.model.proofs.Naming.{Leaves-within, Leaves-earlier, Decided-within, decide-within}
 use Rattle.model.proofs.Steps.{Change, same, input-added, gate-added, output-added, change}
@@ -32,18 +30,12 @@ pub record Consistent (s : State) : Type 0 where
   pub few-nodes : length (s .source) ≤ s .capacity
   pub few-outputs : length (s .outputs) ≤ s .outputRows
 
--- number n of a list, or the default
-every-numbered : {A : Type 0} (P : A → Type 0) (d : A) (xs : List A) (n : ℕ) → P d → Every P xs → P (at d xs n)
-every-numbered P d [] n h e = h
-every-numbered P d (x ∷ xs) n h e =
-    let old = every-numbered P d xs n h (e .1) in
-    cond-both (eqb n (suc (length xs))) x (at d xs n) P (λ _. e .0) (λ _. old)
+-- every node and every edge is mapped to an edge of a reduced node
+pub mapped-within : (s : State) → Consistent s → (n : ℕ) → nodeOf (at 0 (s .mapped) n) ≤ length (s .reduced)
+mapped-within s k n = every-number (λ f. nodeOf f ≤ length (s .reduced)) 0 (s .mapped) n (omega arith) (k .maps)
 
--- every edge is mapped to an edge of a reduced node
 pub map-within : (s : State) → Consistent s → (e : ℕ) → nodeOf (mapEdge s e) ≤ length (s .reduced)
-map-within s k e =
-    let known = every-numbered (λ f. nodeOf f ≤ length (s .reduced)) 0 (s .mapped) (nodeOf e) (omega arith) (k .maps) in
-    omega (arith, node-signed (at 0 (s .mapped) (nodeOf e)) (signOf e))
+map-within s k e = omega (arith, mapped-within s k (nodeOf e), node-signed (at 0 (s .mapped) (nodeOf e)) (signOf e))
 
 pub fanins-within : (s : State) → Consistent s → (a b : ℕ) → (nodeOf (lowFanin s a b) ≤ length (s .reduced)) × (nodeOf (highFanin s a b) ≤ length (s .reduced))
 fanins-within s k a b = let x = map-within s k a in let y = map-within s k b in (omega arith, omega arith)
@@ -93,7 +85,7 @@ input-keeps s k room = record {
   same-inputs = ap suc (k .same-inputs);
   maps = (
     omega (arith, node-edge (suc (length (s .reduced))) false),
-    every-both (λ e. nodeOf e ≤ length (s .reduced)) (λ e. nodeOf e ≤ suc (length (s .reduced))) (s .mapped) (λ e h. omega arith) (k .maps),
+    every-weaken (λ e. nodeOf e ≤ length (s .reduced)) (λ e. nodeOf e ≤ suc (length (s .reduced))) (s .mapped) (λ e h. omega arith) (k .maps),
   );
   leaves = (tt, k .leaves);
   few-nodes = room;
@@ -111,7 +103,7 @@ gate-keeps s a b x y d k ha hb room h = record {
   same-inputs = h .same-inputs ∙ k .same-inputs;
   maps = (
     h .known,
-    every-both (λ e. nodeOf e ≤ length (s .reduced)) (λ e. nodeOf e ≤ length (reducedAfter (s .reduced) x y d)) (s .mapped) (λ e z. omega (arith, h .least)) (k .maps),
+    every-weaken (λ e. nodeOf e ≤ length (s .reduced)) (λ e. nodeOf e ≤ length (reducedAfter (s .reduced) x y d)) (s .mapped) (λ e z. omega (arith, h .least)) (k .maps),
   );
   leaves = h .leaves;
   few-nodes = room;

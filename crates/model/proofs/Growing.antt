@@ -1,23 +1,22 @@
 -- What one more node leaves as it was.
-use mathlib.Core.Path.{_≡_, refl, sym, ap, ap₂, _∙_, subst}
-use mathlib.Core.Bool.{Bool, true, false, not, cond, _&&_, _||_}
+use mathlib.Core.Path.{_≡_, refl, sym, ap, _∙_, subst}
+use mathlib.Core.Bool.{Bool, true, false, cond}
 use mathlib.Core.List.{List, [], _∷_}
-use mathlib.Core.Logic.{_⊎_, inl, inr, ⊎-elim}
-use Prim.Native.Nat.{ℕ, zero, suc, _+_, _-_, _*_, _/_, _<_, _≤_, min}
+use mathlib.Core.Logic.{⊎-elim}
+use Prim.Native.Nat.{ℕ, suc, _*_, _/_, _<_, _≤_}
 use native.Mathlib.Nat.{le-trans, mul-comm, mul-le-mul-left, mul-div-le, le-div-iff-mul-le}
 use native.Mathlib.Omega.{arith}
 use lib.Dec.{eqb}
 use lib.ListN.{length}
-use Rattle.std.proofs.shelf.Tests.{eq-eqb, ne-eqb}
-use Rattle.model.specs.Leaves.{has}
+use Rattle.std.proofs.shelf.Tests.{eq-eqb, ne-eqb, eqb-true, eqb-false, cases-lt, cond-both}
 use Rattle.model.specs.Edges.{nodeOf, signOf}
-use Rattle.model.specs.Cuts.{Cut, valueOf, trivial}
-use Rattle.model.specs.Graphs.{Node, input, gate, Graph, Kind, bits, at, signals, edgeSignal, value, edgeValue, heights, height, cutsOf, inputs}
+use Rattle.model.specs.Cuts.{Cut, trivial}
+use Rattle.model.specs.Graphs.{Node, input, gate, Graph, Kind, bits, at, signals, edgeSignal, value, heights, height, inputs}
 use Rattle.model.specs.Rankings.{Every}
-use Rattle.model.specs.Sessions.{Tables, capacityOf}
-use Rattle.model.specs.GraphLaws.{Describes, Grows, Growing-changes-nothing-earlier, Cuts-stay, Capacity, Capacity-is-largest}
+use Rattle.model.specs.Sessions.{capacityOf}
+use Rattle.model.specs.GraphLaws.{Describes, Growing-changes-nothing-earlier, Cuts-stay, Capacity-is-largest}
 use Rattle.model.proofs.Meaning.{value-alike}
-use Rattle.model.proofs.Choosing.{every-in}
+use Rattle.model.proofs.Lists.{every-in}
 
 module _ {A : Type 0} (d x : A) (xs : List A) where
   pub at-old : (n : ℕ) → n ≤ length xs → at d (x ∷ xs) n ≡ at d xs n
@@ -29,6 +28,27 @@ module _ {A : Type 0} (d x : A) (xs : List A) where
 pub at-none : {A : Type 0} (d : A) (xs : List A) (n : ℕ) → length xs < n → at d xs n ≡ d
 at-none d [] n h = refl
 at-none d (x ∷ xs) n h = rw (ne-eqb n (suc (length xs)) (λ e. omega arith)) (at-none d xs n (omega arith))
+
+-- what holds of each number of a list holds with one more, if it holds of that one, and of the default behind it
+pub at-more : {A : Type 0} (P : ℕ → A → Type 0) (d x : A) (xs : List A) → ((n : ℕ) → n ≤ length xs → P n (at d xs n)) → P (suc (length xs)) x
+    → ((n : ℕ) → suc (length xs) < n → P n d) → (n : ℕ) → P n (at d (x ∷ xs) n)
+at-more P d x xs old new none n = cond-both (eqb n (suc (length xs))) x (at d xs n) (P n)
+    (λ h. subst (λ m. P m x) (sym (eqb-true n (suc (length xs)) h)) new)
+    (λ h. let other = eqb-false n (suc (length xs)) h in ⊎-elim
+    (λ (z : n < suc (length xs)). old n (omega arith))
+    (λ (z : suc (length xs) ≤ n). subst (P n) (sym (at-none d xs n (omega arith))) (none n (omega arith)))
+    (cases-lt n (suc (length xs))))
+
+-- one number has P and Q, also with one more, if that one has neither with an earlier one
+pub one-more : {A : Type 0} (P Q : A → Type 0) (d x : A) (xs : List A) → (P x → (n : ℕ) → Q (at d xs n) → ⊥) → (Q x → (m : ℕ) → P (at d xs m) → ⊥)
+    → ((m n : ℕ) → P (at d xs m) → Q (at d xs n) → m ≡ n) → (m n : ℕ) → P (at d (x ∷ xs) m) → Q (at d (x ∷ xs) n) → m ≡ n
+one-more P Q d x xs first second old m n = go (eqb m (suc (length xs))) refl (eqb n (suc (length xs))) refl
+  where
+    go : (b : Bool) → eqb m (suc (length xs)) ≡ b → (c : Bool) → eqb n (suc (length xs)) ≡ c → P (cond b x (at d xs m)) → Q (cond c x (at d xs n)) → m ≡ n
+    go true i true j h k = let v = eqb-true _ _ i in let w = eqb-true _ _ j in omega arith
+    go true i false j h k = absurd (first h n k)
+    go false i true j h k = absurd (second k m h)
+    go false i false j h k = old m n h k
 
 pub at-zero : {A : Type 0} (d : A) (xs : List A) → at d xs 0 ≡ d
 at-zero d [] = refl
@@ -81,11 +101,11 @@ describes-old nd g c n h low des env =
 
 pub growing : Growing-changes-nothing-earlier
 growing nd g = record {
-    values = value-old nd g;
-    edges = λ env e. edge-old bits env nd g e;
-    heights = height-old nd g;
-    describes = describes-old nd g;
-  }
+  values = value-old nd g;
+  edges = λ env e. edge-old bits env nd g e;
+  heights = height-old nd g;
+  describes = describes-old nd g;
+}
 
 pub cuts-stay : Cuts-stay
 cuts-stay p cs ks n h = ap (λ l. trivial p n ∷ l) (at-old [] cs ks n h)

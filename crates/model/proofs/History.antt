@@ -9,7 +9,7 @@ use Rattle.model.specs.Search.{Decision, folded, shared, merged, made, Limits}
 use Rattle.model.specs.Sessions.{State, Tables, Answer}
 use Rattle.model.specs.Sessions.{Call, After, withGate, gateStep, step, capacityOf, nodeLimit, outputLimit}
 use Rattle.model.specs.Runs.{Event, Run, opening, calling, Steps}
-use Rattle.model.specs.RunLaws.{lowFanin, highFanin, answeredBy, tallyOf, gates, toldBy, sourceOf, outputBy, outputsOf, Nothing-lost, Same-call, same-input, same-gate, same-output, same-map, same-walk, same-cone, Same-calls, same-more, Deterministic}
+use Rattle.model.specs.RunLaws.{lowFanin, highFanin, answeredBy, tallyOf, gates, toldBy, sourceOf, outputBy, outputsOf, Nothing-lost, Same-call, same-input, same-gate, same-output, same-map, same-walk, same-cone, Same-calls, same-more, Deterministic, Fit}
 use Rattle.model.proofs.Consistent.{map-within, run-consistent}
 use Rattle.model.proofs.Steps.{Change, same, input-added, gate-added, output-added, change}
 pub use Rattle.model.proofs.Steps.{refused-changes-nothing}
@@ -68,6 +68,9 @@ module _ {p : ℕ} {m : Limits} {t : Tables} where
   pub limits-stay : {es : List (Event p)} {s : State} → Run p m t es s → s .limits ≡ m
   limits-stay (opening e) = ap (λ (s : State). s .limits) e
   limits-stay (calling r h) = step-told h .limits ∙ limits-stay r
+
+  pub leaves-fit : {es : List (Event p)} {s : State} → Fit p m → Run p m t es s → s .limits .leaves ≤ p
+  leaves-fit fit r = omega (arith, ap (λ (k : Limits). k .leaves) (limits-stay r), fit .leaves)
 
   pub capacity-stays : {es : List (Event p)} {s : State} → Run p m t es s → s .capacity ≡ capacityOf nodeLimit (m .kept) t
   capacity-stays (opening e) = ap (λ (s : State). s .capacity) e

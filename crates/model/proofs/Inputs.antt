@@ -1,23 +1,23 @@
 -- The inputs of a graph: nodes of height 0, counted by rank; every valuation of them comes from some assignment.
-use mathlib.Core.Path.{_≡_, refl, sym, ap, ap₂, _∙_, subst}
-use mathlib.Core.Bool.{Bool, true, false, not, cond, _&&_, _||_}
+use mathlib.Core.Path.{_≡_, refl, sym, ap, _∙_, subst}
+use mathlib.Core.Bool.{Bool, true, false, cond, _||_}
 use mathlib.Core.List.{List, [], _∷_, map}
-use mathlib.Core.Logic.{_⊎_, inl, inr, ⊎-elim}
-use Prim.Native.Nat.{ℕ, zero, suc, _+_, _-_, _<_, _≤_, max}
+use mathlib.Core.Logic.{⊎-elim}
+use Prim.Native.Nat.{ℕ, zero, suc, _<_, _≤_, max}
 use native.Mathlib.Omega.{arith}
 use lib.Dec.{eqb, ltb}
 use lib.ListN.{length, getD}
-use Rattle.std.proofs.shelf.Tests.{eq-eqb, ne-eqb, eqb-true, ltb-false, le-ltb, cases-eq, cases-lt, cases-bool, both-ways}
-use Rattle.model.specs.Leaves.{has, Rising}
+use Rattle.std.proofs.shelf.Tests.{eq-eqb, ne-eqb, ltb-false, le-ltb, cases-eq, both-ways}
+use Rattle.model.specs.Leaves.{Rising}
 use Rattle.model.specs.Cuts.{Cut, valueOf, Formed}
 use Rattle.model.specs.Edges.{nodeOf}
-use Rattle.model.specs.Graphs.{Node, input, gate, Graph, at, bits, inputs, signals, value, heights, height}
-use Rattle.model.specs.Rankings.{Every, anyGate, LeafFacts}
+use Rattle.model.specs.Graphs.{Node, input, gate, Graph, at, bits, inputs, value, heights, height}
+use Rattle.model.specs.Rankings.{Every, anyGate}
 use Rattle.model.specs.Search.{leafIn}
 use Rattle.model.proofs.Places.{has-at}
 use Rattle.model.proofs.Meaning.{value-alike, one-meaning}
-use Rattle.model.proofs.Choosing.{every-in}
-use Rattle.model.proofs.Growing.{at-new, at-old, length-heights, height-old, value-old, signal-input}
+use Rattle.model.proofs.Lists.{every-in}
+use Rattle.model.proofs.Growing.{at-new, length-heights, height-old, value-old, signal-input}
 
 -- an input of the graph
 pub record Input-node (g : Graph) (l : ℕ) : Type 0 where
@@ -71,6 +71,7 @@ rank-below = by-age (λ g l. rankOf g l < inputs g) (λ g. new g) old
   where
     new : (g : Graph) → rankOf (input ∷ g) (suc (length g)) < suc (inputs g)
     new g = rw (eq-eqb (suc (length g)) (suc (length g)) refl) (omega arith)
+
     old : (nd : Node) (g : Graph) (l : ℕ) → Input-node g l → rankOf g l < inputs g → rankOf (nd ∷ g) l < inputs (nd ∷ g)
     old input g l i h = rw (ne-eqb l (suc (length g)) (λ e. omega (arith, i .known))) (omega arith)
     old (gate x y) g l i h = h
@@ -80,6 +81,7 @@ input-of-rank = by-age (λ g l. inputOf g (rankOf g l) ≡ l) new old
   where
     new : (g : Graph) → inputOf (input ∷ g) (rankOf (input ∷ g) (suc (length g))) ≡ suc (length g)
     new g = rw (eq-eqb (suc (length g)) (suc (length g)) refl, eq-eqb (inputs g) (inputs g) refl)
+
     old : (nd : Node) (g : Graph) (l : ℕ) → Input-node g l → inputOf g (rankOf g l) ≡ l → inputOf (nd ∷ g) (rankOf (nd ∷ g) l) ≡ l
     old input g l i h = rw (ne-eqb l (suc (length g)) (λ e. omega (arith, i .known)), ne-eqb (rankOf g l) (inputs g) (λ e. omega (arith, rank-below g l i))) h
     old (gate x y) g l i h = h
@@ -89,6 +91,7 @@ value-of-rank env = by-age (λ g l. value g env l ≡ env (rankOf g l)) new old
   where
     new : (g : Graph) → value (input ∷ g) env (suc (length g)) ≡ env (rankOf (input ∷ g) (suc (length g)))
     new g = signal-input bits env g ∙ ap env (rw (eq-eqb (suc (length g)) (suc (length g)) refl))
+
     old : (nd : Node) (g : Graph) (l : ℕ) → Input-node g l → value g env l ≡ env (rankOf g l) → value (nd ∷ g) env l ≡ env (rankOf (nd ∷ g) l)
     old input g l i h = value-old input g env l (i .known) ∙ h ∙ ap env (rw (ne-eqb l (suc (length g)) (λ e. omega (arith, i .known))))
     old (gate x y) g l i h = value-old (gate x y) g env l (i .known) ∙ h
@@ -107,6 +110,7 @@ rank-rises (nd ∷ g) k l i j h = go nd i j (rank-rises g k l)
   where
     hk : k ≤ length g
     hk = omega (arith, j .known)
+
     go : (n : Node) → Input-node (n ∷ g) k → Input-node (n ∷ g) l → (Input-node g k → Input-node g l → k < l → rankOf g k < rankOf g l) → rankOf (n ∷ g) k < rankOf (n ∷ g) l
     go input i j ih = ⊎-elim
         (λ (z : l ≡ suc (length g)). rw (eq-eqb l (suc (length g)) z, ne-eqb k (suc (length g)) (λ e. omega (arith, hk))) (rank-below g k (input-earlier input g k hk i)))

@@ -1,15 +1,14 @@
 -- Words ANDed and complemented are tables of the functions ANDed and complemented.
 use mathlib.Core.Path.{_≡_, refl, sym, ap, ap₂, _∙_, subst}
 use mathlib.Core.Bool.{Bool, true, false, not, cond, _&&_}
-use mathlib.Core.List.{List, [], _∷_}
-use Prim.Native.Nat.{ℕ, zero, suc, _+_, _-_, _*_, _^_, _<_, _≤_}
-use native.Mathlib.Omega.{arith}
-use lib.Pow.{pow-pos, ones-sub-lt}
+use mathlib.Core.List.{List}
+use Prim.Native.Nat.{ℕ, _-_, _^_, _<_}
+use lib.Pow.{ones-sub-lt}
 use lib.Bits.{bitAnd, and-lt}
 use lib.ListN.{length}
 use Rattle.model.specs.Cuts.{Cut, valueOf, tabulate, squeeze, join}
-use Rattle.model.specs.Tables.{bitAt, flipIf, val, Free, Rests, Loose, put, span}
-use Rattle.model.specs.Leaves.{valuation, unite}
+use Rattle.model.specs.Tables.{flipIf, val, Loose, put}
+use Rattle.model.specs.Leaves.{unite}
 use Rattle.model.proofs.Bits.{bit-and, bit-not}
 use Rattle.model.proofs.Positions.{val-row-below}
 use Rattle.model.proofs.Masked.{loose-rests, rests-loose}
@@ -32,19 +31,19 @@ tabulate-signed p false ls f = refl
 
 -- the joined table
 pub joined-table : (p : ℕ) (a b : Cut) (s t : Bool) (ls : List ℕ) {x y u w : ℕ} → x ≡ tabulate p ls (valueOf a) → y ≡ tabulate p ls (valueOf b)
-    → u ≡ cond s (2 ^ 2 ^ p - 1 - x) x → w ≡ cond t (2 ^ 2 ^ p - 1 - y) y → bitAnd u w ≡ tabulate p ls (λ v. ((flipIf s (valueOf a v)) && (flipIf t (valueOf b v))))
+    → u ≡ cond s (2 ^ 2 ^ p - 1 - x) x → w ≡ cond t (2 ^ 2 ^ p - 1 - y) y → bitAnd u w ≡ tabulate p ls (λ v. flipIf s (valueOf a v) && flipIf t (valueOf b v))
 joined-table p a b s t ls e f g h =
     ap₂ bitAnd g h
     ∙ ap₂ (λ x y. bitAnd (cond s (2 ^ 2 ^ p - 1 - x) x) (cond t (2 ^ 2 ^ p - 1 - y) y)) e f
     ∙ ap₂ bitAnd (tabulate-signed p s ls (valueOf a)) (tabulate-signed p t ls (valueOf b))
     ∙ tabulate-and p ls (λ v. flipIf s (valueOf a v)) (λ v. flipIf t (valueOf b v))
 
-pub join-is : (p : ℕ) (a b : Cut) (s t : Bool) (ls : List ℕ) (z : ℕ) → ls ≡ unite (a .leaves) (b .leaves) → z ≡ tabulate p ls (λ v. ((flipIf s (valueOf a v)) && (flipIf t (valueOf b v))))
+pub join-is : (p : ℕ) (a b : Cut) (s t : Bool) (ls : List ℕ) (z : ℕ) → ls ≡ unite (a .leaves) (b .leaves) → z ≡ tabulate p ls (λ v. flipIf s (valueOf a v) && flipIf t (valueOf b v))
     → squeeze p (record { leaves = ls; table = z }) ≡ join p a s b t
 unfolding join
 join-is p a b s t ls z e f =
     ap (λ n. squeeze p (record { leaves = ls; table = n })) f
-    ∙ ap (λ l. squeeze p (record { leaves = l; table = tabulate p l (λ v. ((flipIf s (valueOf a v)) && (flipIf t (valueOf b v)))) })) e
+    ∙ ap (λ l. squeeze p (record { leaves = l; table = tabulate p l (λ v. flipIf s (valueOf a v) && flipIf t (valueOf b v)) })) e
 
 pub tabulated-loose : (p : ℕ) (ls : List ℕ) (f : (ℕ → Bool) → Bool) (z : ℕ) → z ≡ tabulate p ls f → Loose p z (length ls)
 tabulated-loose p ls f z e = subst (λ w. Loose p w (length ls)) (sym e) (rests-loose p (tabulate p ls f) (length ls) (tabulate-rests p ls f))

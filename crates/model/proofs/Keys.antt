@@ -3,7 +3,6 @@ use mathlib.Core.Path.{_≡_, refl, sym, _∙_, ap}
 use mathlib.Core.Bool.{Bool, true, false, cond, not, _&&_}
 use mathlib.Core.List.{List, [], _∷_, _++_, map}
 use Prim.Native.Nat.{ℕ, _+_, _<_, _≤_}
-use native.Mathlib.Omega.{arith}
 use borrow.Author.Tests.{eq-eqb, eqb-true, lt-ltb, le-ltb}
 use lib.Dec.{eqb, ltb}
 use lib.ListN.{length, drop, getD}
@@ -20,7 +19,7 @@ same-eq [] (y ∷ ys) e = cc
 same-eq (x ∷ xs) [] e = cc
 same-eq (x ∷ xs) (y ∷ ys) e = go (same-eq xs ys) (eqb x y) refl e
   where
-    go : (eqList xs ys ≡ true → xs ≡ ys) → (b : Bool) → eqb x y ≡ b → (b && (eqList xs ys)) ≡ true → x ∷ xs ≡ y ∷ ys
+    go : (eqList xs ys ≡ true → xs ≡ ys) → (b : Bool) → eqb x y ≡ b → (b && eqList xs ys) ≡ true → x ∷ xs ≡ y ∷ ys
     go f true h k = let p = eqb-true x y h in let q = f k in cc
     go f false h k = cc
 

@@ -1,8 +1,10 @@
+-- The proofs, each module after those that it rests on.
 pub mod Rows
 pub mod Bits
 pub mod Positions
 pub mod Masked
 pub mod Places
+pub mod Lists
 pub mod Stretching
 pub mod Squeezing
 pub mod Uniting
@@ -15,18 +17,19 @@ pub mod Along
 pub mod Meaning
 pub mod Choosing
 pub mod Growing
-pub mod Searching
 pub mod Signs
+pub mod Searching
 pub mod Deciding
+pub mod Naming
+pub mod Candidates
+pub mod Steps
+pub mod Made
+pub mod Consistent
+pub mod History
 pub mod Values
+pub mod Reducing
 pub mod Inputs
 pub mod Covering
 pub mod Completing
-pub mod Candidates
-pub mod Reducing
-pub mod Naming
-pub mod Steps
-pub mod Consistent
-pub mod History
 pub mod Sound
 pub mod Worked

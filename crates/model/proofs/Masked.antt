@@ -1,32 +1,24 @@
 -- A masked position is one that the table does not look at; tables agree where valuations agree on the others.
 use mathlib.Core.Path.{_≡_, refl, sym, ap, ap₂, _∙_, subst}
-use mathlib.Core.Bool.{Bool, true, false, not, cond, _&&_}
-use mathlib.Core.List.{List, [], _∷_}
+use mathlib.Core.Bool.{Bool, true, false, not, cond}
 use mathlib.Core.Logic.{_⊎_, inl, inr, ⊎-elim}
-use Prim.Native.Nat.{ℕ, zero, suc, _+_, _-_, _*_, _/_, _%_, _^_, _<_, _≤_}
+use Prim.Native.Nat.{ℕ, zero, suc, _+_, _-_, _^_, _<_, _≤_}
 use native.Mathlib.Nat.{zero-add}
 use native.Mathlib.Omega.{arith}
 use lib.Dec.{eqb, ltb}
-use Rattle.std.proofs.shelf.Tests.{eqb-true, eq-eqb, ne-eqb, cases-eq, cases-lt, cases-bool, lt-ltb, le-ltb, both-ways}
-use Rattle.model.specs.Tables.{bitAt, row, number, same, allRows, flipped, masked, span, val, put, Free, Rests, Loose}
-use Rattle.model.proofs.Positions.{val-row-below, val-same, val-bit, row-bits, row-span, val-at, put-same, put-other, raised, lowered, put-back, put-put, same-tables}
-
-and-both : (a b : Bool) → (a && b) ≡ true → (a ≡ true) × (b ≡ true)
-and-both true b h = (refl, h)
-and-both false b h = absurd (both-ways false refl h)
-
-and-make : (a b : Bool) → a ≡ true → b ≡ true → (a && b) ≡ true
-and-make a b h k = rw h k
+use Rattle.std.proofs.shelf.Tests.{eqb-true, eq-eqb, ne-eqb, cases-eq, cases-lt, lt-ltb, le-ltb, both-ways, and-parts, and-from}
+use Rattle.model.specs.Tables.{bitAt, row, same, allRows, flipped, masked, span, val, put, Free, Rests, Loose}
+use Rattle.model.proofs.Positions.{val-row-below, val-same, val-bit, row-bits, val-at, raised, lowered, put-back, put-put, same-tables}
 
 pub all-rows-at : (f : ℕ → Bool) (j n : ℕ) → allRows f j n ≡ true → (k : ℕ) → k < n → f (j + k) ≡ true
 all-rows-at f j zero e k h = absurd (omega arith)
-all-rows-at f j (suc n) e zero h = ap f (omega arith) ∙ and-both (f j) (allRows f (suc j) n) e .0
-all-rows-at f j (suc n) e (suc k) h = ap f (omega arith) ∙ all-rows-at f (suc j) n (and-both (f j) (allRows f (suc j) n) e .1) k (omega arith)
+all-rows-at f j (suc n) e zero h = ap f (omega arith) ∙ and-parts (f j) (allRows f (suc j) n) e .0
+all-rows-at f j (suc n) e (suc k) h = ap f (omega arith) ∙ all-rows-at f (suc j) n (and-parts (f j) (allRows f (suc j) n) e .1) k (omega arith)
 
 pub all-rows-make : (f : ℕ → Bool) (j n : ℕ) → ((k : ℕ) → k < n → f (j + k) ≡ true) → allRows f j n ≡ true
 all-rows-make f j zero h = refl
 all-rows-make f j (suc n) h =
-    and-make (f j) (allRows f (suc j) n) (ap f (omega arith) ∙ h 0 (omega arith))
+    and-from (f j) (allRows f (suc j) n) (ap f (omega arith) ∙ h 0 (omega arith))
     (all-rows-make f (suc j) n (λ k l. ap f (omega arith) ∙ h (suc k) (omega arith)))
 
 pub same-equal : (a b : Bool) → same a b ≡ true → a ≡ b

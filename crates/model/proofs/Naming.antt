@@ -1,26 +1,22 @@
 -- Every leaf of a kept cut and every edge that is decided names a node of the graph, whatever the number of positions.
-use mathlib.Core.Path.{_≡_, refl, sym, _∙_, subst}
-use mathlib.Core.Bool.{Bool, true, false, _&&_}
+use mathlib.Core.Path.{_≡_, refl, sym, subst}
+use mathlib.Core.Bool.{Bool, false}
 use mathlib.Core.List.{List, [], _∷_}
-use mathlib.Core.Logic.{⊎-elim}
 use Prim.Native.Nat.{ℕ, suc, _<_, _≤_}
 use native.Mathlib.Omega.{arith}
 use lib.Dec.{eqb}
 use lib.ListN.{length}
-use Rattle.std.proofs.shelf.Tests.{eqb-true, or-cases, cond-both}
+use Rattle.std.proofs.shelf.Tests.{eqb-true, cond-both}
 use Rattle.std.specs.declared.option.Option.{Option}
 use Rattle.std.specs.declared.option.Option.the-variants.{Some, None}
-use Rattle.model.specs.Tables.{flipIf}
-use Rattle.model.specs.Leaves.{has, unite}
 use Rattle.model.specs.Edges.{nodeOf, signOf, edge}
-use Rattle.model.specs.Cuts.{Cut, valueOf, tabulate, join, joined, keySign, keyList}
+use Rattle.model.specs.Cuts.{Cut, joined, keySign, keyList}
 use Rattle.model.specs.Graphs.{Graph, at, Ordered, cutsOf, findPair, findKey}
 use Rattle.model.specs.Rankings.{Before, Every}
 use Rattle.model.specs.Search.{Decision, folded, shared, merged, made, settled, judged, considered, searchIn, chosen, byLeaves, leafIn, Limits, foldPair, inOrder, decide}
-use Rattle.model.proofs.Meaning.{squeeze-among}
-use Rattle.model.proofs.Uniting.{unite-has}
-use Rattle.model.proofs.Choosing.{every-in, every-from}
-use Rattle.model.proofs.Searching.{every-both, every-added, Comes, search-comes, chosen-comes}
+use Rattle.model.proofs.Meaning.{every-joined}
+use Rattle.model.proofs.Lists.{every-weaken, every-added}
+use Rattle.model.proofs.Searching.{Comes, search-comes, chosen-comes}
 use Rattle.model.proofs.Signs.{node-edge, node-signed}
 use Rattle.model.proofs.Deciding.{fold-known, pair-value, joined-some, key-found}
 
@@ -44,27 +40,15 @@ earlier-at (cs ∷ ks) e n =
     let old = earlier-at ks (e .1) n in
     cond-both (eqb n (suc (length ks))) cs (at [] ks n) (Every (Leaves-before n))
     (λ h. let is = eqb-true n (suc (length ks)) h in
-    every-both (Leaves-within (length ks)) (Leaves-before n) cs (λ c. every-both (λ l. l ≤ length ks) (λ l. l < n) (c .leaves) (λ l k. omega arith)) (e .0))
+    every-weaken (Leaves-within (length ks)) (Leaves-before n) cs (λ c. every-weaken (λ l. l ≤ length ks) (λ l. l < n) (c .leaves) (λ l k. omega arith)) (e .0))
     (λ _. old)
 
 -- the cuts of a node, its trivial one among them
 pub cuts-within : (p : ℕ) (ks : List (List Cut)) (n m : ℕ) → Leaves-earlier ks → n ≤ m → Every (Leaves-within m) (cutsOf p ks n)
 cuts-within p ks n m e h = (
   (h, tt),
-  every-both (Leaves-before n) (Leaves-within m) (at [] ks n) (λ c. every-both (λ l. l < n) (λ l. l ≤ m) (c .leaves) (λ l k. omega arith)) (earlier-at ks e n),
+  every-weaken (Leaves-before n) (Leaves-within m) (at [] ks n) (λ c. every-weaken (λ l. l < n) (λ l. l ≤ m) (c .leaves) (λ l k. omega arith)) (earlier-at ks e n),
 )
-
--- a leaf of a joined cut is a leaf of one of its parts, well formed or not
-pub join-among : (p : ℕ) (a : Cut) (s : Bool) (b : Cut) (t : Bool) (l : ℕ) → has l (join p a s b t .leaves) ≡ true → has l (unite (a .leaves) (b .leaves)) ≡ true
-unfolding join
-join-among p a s b t l h =
-    let ls = unite (a .leaves) (b .leaves) in
-    squeeze-among p (record { leaves = ls; table = tabulate p ls (λ v. flipIf s (valueOf a v) && flipIf t (valueOf b v)) }) l h
-
-pub every-joined : (P : ℕ → Type 0) (p : ℕ) (a : Cut) (s : Bool) (b : Cut) (t : Bool) → Every P (a .leaves) → Every P (b .leaves) → Every P (join p a s b t .leaves)
-every-joined P p a s b t ea eb =
-    every-from P (join p a s b t .leaves)
-    (λ l h. ⊎-elim (every-in P (a .leaves) l ea) (every-in P (b .leaves) l eb) (or-cases (has l (a .leaves)) (has l (b .leaves)) (sym (unite-has l (a .leaves) (b .leaves)) ∙ join-among p a s b t l h)))
 
 pub key-within : (p : ℕ) (ks : List (List Cut)) → Leaves-earlier ks → (q : List ℕ) (e : ℕ) → findKey p ks q ≡ Some e → nodeOf e ≤ length ks
 key-within p ks earlier q e h =
@@ -113,7 +97,7 @@ decide-within p m before g ks x y ordered rows earlier hx hy = go (foldPair x y)
     go : (a : Option ℕ) → foldPair x y ≡ a → (b : Option ℕ) → findPair x y g ≡ b
         → Decided-within (length g) (inOrder a b (chosen (m .kept) (byLeaves before (leafIn g)) (searchIn p (m .leaves) g ks x y)))
     go (Some e) h b z = fold-known x y e (length g) h hx hy
-    go None h (Some e) z = pair-value x y g ordered e z .known
+    go None h (Some e) z = pair-value x y g ordered e z .edge-for .known
     go None h None z =
         chosen-comes (Leaves-within (length g)) (Decided-within (length g)) (m .kept) (byLeaves before (leafIn g)) (searchIn p (m .leaves) g ks x y)
         (search-within p (m .leaves) g ks rows earlier x y hx hy) (λ cs h. h)

@@ -1,20 +1,20 @@
 -- Where leaves stand in rising lists.
-use mathlib.Core.Path.{_≡_, refl, sym, ap, ap₂, _∙_, subst}
-use mathlib.Core.Bool.{Bool, true, false, not, cond, _||_}
+use mathlib.Core.Path.{_≡_, refl, sym, ap}
+use mathlib.Core.Bool.{Bool, true, false, cond, _||_}
 use mathlib.Core.List.{List, [], _∷_}
-use mathlib.Core.Logic.{_⊎_, inl, inr, ⊎-elim}
-use Prim.Native.Nat.{ℕ, zero, suc, _+_, _-_, _*_, _<_, _≤_}
+use mathlib.Core.Logic.{⊎-elim}
+use Prim.Native.Nat.{ℕ, zero, suc, _+_, _-_, _<_, _≤_}
 use native.Mathlib.Omega.{arith}
-use lib.Dec.{eqb, ltb}
+use lib.Dec.{eqb}
 use lib.ListN.{length, getD}
-use Rattle.std.proofs.shelf.Tests.{eqb-true, eqb-false, eq-eqb, ne-eqb, cases-eq, cases-lt, cases-order, both-ways}
+use Rattle.std.proofs.shelf.Tests.{eqb-true, eq-eqb, cases-lt, cases-order, both-ways, or-right}
 use Rattle.model.specs.Leaves.{has, place, Rising, Within}
 
 pub place-in : (l : ℕ) (ls : List ℕ) → has l ls ≡ true → (getD ls (place l ls) 0 ≡ l) × (place l ls < length ls)
 place-in l [] h = absurd (both-ways false refl h)
 place-in l (m ∷ ms) h = go (eqb l m) refl (place-in l ms) h
   where
-    go : (b : Bool) → eqb l m ≡ b → (has l ms ≡ true → (getD ms (place l ms) 0 ≡ l) × (place l ms < length ms)) → (b || (has l ms)) ≡ true
+    go : (b : Bool) → eqb l m ≡ b → (has l ms ≡ true → (getD ms (place l ms) 0 ≡ l) × (place l ms < length ms)) → (b || has l ms) ≡ true
         → (getD (m ∷ ms) (cond b 0 (suc (place l ms))) 0 ≡ l) × (cond b 0 (suc (place l ms)) < length (m ∷ ms))
     go true e ih k = (sym (eqb-true l m e), omega arith)
     go false e ih k = (ih k .0, omega (arith, ih k .1))
@@ -23,10 +23,6 @@ pub has-at : (ls : List ℕ) (k : ℕ) → k < length ls → has (getD ls k 0) l
 has-at [] k h = absurd (omega arith)
 has-at (m ∷ ms) zero h = rw (eq-eqb m m refl)
 has-at (m ∷ ms) (suc k) h = or-right (eqb (getD ms k 0) m) (has (getD ms k 0) ms) (has-at ms k (omega arith))
-  where
-    or-right : (a b : Bool) → b ≡ true → (a || b) ≡ true
-    or-right true b e = refl
-    or-right false b e = e
 
 -- in a rising list one number stands at one place
 pub rising-one : (ls : List ℕ) → Rising ls → (i j : ℕ) → i < length ls → j < length ls → getD ls i 0 ≡ getD ls j 0 → i ≡ j

@@ -1,18 +1,17 @@
 -- Rows by position, and what word operations with position masks do to a table. For any number p of positions.
 use mathlib.Core.Path.{_≡_, refl, sym, ap, ap₂, _∙_, subst}
 use mathlib.Core.Bool.{Bool, true, false, not, cond, _&&_, _||_}
-use mathlib.Core.List.{List, [], _∷_}
-use mathlib.Core.Logic.{_⊎_, inl, inr, ⊎-elim}
+use mathlib.Core.Logic.{⊎-elim}
 use Prim.Native.Nat.{ℕ, zero, suc, _+_, _-_, _*_, _/_, _%_, _^_, _<_, _≤_}
-use native.Mathlib.Nat.{pow-suc, suc-add, zero-add, add-zero, add-suc}
+use native.Mathlib.Nat.{pow-suc, zero-add, add-zero}
 use native.Mathlib.Omega.{arith}
-use lib.Dec.{eqb, ltb}
+use lib.Dec.{eqb}
 use lib.ListN.{length}
-use lib.Bits.{bitAnd, bitOr, bitXor, or-lt, and-lt}
-use Rattle.std.proofs.shelf.Tests.{eqb-true, eqb-false, eq-eqb, ne-eqb, cases-eq, cases-bool}
-use Rattle.model.specs.Tables.{bitAt, row, number, rowsFrom, span, val, put, Mask}
+use lib.Bits.{bitAnd, bitOr}
+use Rattle.std.proofs.shelf.Tests.{eq-eqb, ne-eqb, cases-eq}
+use Rattle.model.specs.Tables.{bitAt, row, number, span, val, put, Mask}
 use Rattle.model.proofs.Rows.{row-below, half, last}
-use Rattle.model.proofs.Bits.{bit-and, bit-or, bit-not, bit-shr, bit-low, bit-shl, bit-mod, same-bits}
+use Rattle.model.proofs.Bits.{bit-and, bit-or, bit-not, bit-shr, bit-shl, bit-mod, same-bits}
 
 pub length-span : (k n : ℕ) → length (span k n) ≡ n
 length-span k zero = refl
@@ -81,7 +80,7 @@ row-raise v i k (suc n) a b e = ⊎-elim here (λ ne. there ne (row-raise v i (s
 abbrev pub muxed : ℕ → ℕ → ℕ → ℕ → ℕ
 muxed w m a b = bitOr (bitAnd a m) (bitAnd b (2 ^ w - 1 - m))
 
-by-mask : (m a b : Bool) → ((a && m) || (b && (not m))) ≡ cond m a b
+by-mask : (m a b : Bool) → ((a && m) || (b && not m)) ≡ cond m a b
 by-mask true true true = refl
 by-mask true true false = refl
 by-mask true false true = refl

@@ -1,16 +1,19 @@
-use mathlib.Core.Bool.{Bool, true, false, not, cond, _||_}
+-- Rows of tables: the bits of a row are the leaves' values, and what was tabulated is read back.
+use mathlib.Core.Bool.{Bool, true, false, cond, _||_}
 use mathlib.Core.Path.{_≡_, refl, ap, sym, _∙_, subst}
-use mathlib.Core.List.{List, [], _∷_, _++_, map}
-use Prim.Native.Nat.{ℕ, zero, suc, _+_, _-_, _*_, _/_, _%_, _^_, _<_, _≤_}
+use mathlib.Core.List.{List, [], _∷_}
+use Prim.Native.Nat.{ℕ, zero, suc, _+_, _*_, _/_, _%_, _^_, _<_}
 use native.Mathlib.Omega.{arith}
-use native.Mathlib.Nat.{add-zero, add-suc, suc-add, zero-add}
+use native.Mathlib.Nat.{add-zero, zero-add}
 use lib.ListN.{length}
-use lib.Dec.{eqb, ltb, leb, T, eqb→eq}
+use lib.Dec.{eqb}
+use Rattle.std.proofs.shelf.Tests.{eqb-true, both-ways}
 use lib.Pow.{pow-mono}
 use native.Mathlib.Nat.{pow-suc}
-use Rattle.model.specs.Cuts.{Cut, tabulate, valueOf}
+use Rattle.model.specs.Cuts.{tabulate}
 use Rattle.model.specs.Tables.{bitAt, number, rowsFrom, row}
 use Rattle.model.specs.Leaves.{valuation, has, place}
+use Rattle.model.specs.CutLaws.{Alike, Tables-read-back}
 
 pub half : (b : Bool) (m : ℕ) → (number b + 2 * m) / 2 ≡ m
 half true m = omega arith
@@ -37,30 +40,19 @@ row-below v (l ∷ ls) =
     omega (arith, row-below v ls, low (v l) (row v ls), e)
 
 -- the bit of a row at a leaf's place is the leaf's value
-module _ (v : ℕ → Bool) where
-  bit-at-place : (l : ℕ) (ls : List ℕ) → T (has l ls) → bitAt (row v ls) (place l ls) ≡ v l
-  bit-at-place l [] h = absurd h
-  bit-at-place l (m ∷ ms) h = go (eqb l m) refl (bit-at-place l ms) h
-    where
-      go : (b : Bool) → eqb l m ≡ b → (T (has l ms) → bitAt (row v ms) (place l ms) ≡ v l) → T (b || (has l ms)) → bitAt (row v (m ∷ ms)) (cond b 0 (suc (place l ms))) ≡ v l
-      go true e ih h = last (v m) (row v ms) ∙ ap v (sym (eqb→eq l m (subst T (sym e) tt)))
-      go false e ih h = ap (λ n. bitAt n (place l ms)) (half (v m) (row v ms)) ∙ ih h
+bit-at-place : (v : ℕ → Bool) (l : ℕ) (ls : List ℕ) → has l ls ≡ true → bitAt (row v ls) (place l ls) ≡ v l
+bit-at-place v l [] h = absurd (both-ways false refl h)
+bit-at-place v l (m ∷ ms) h = go (eqb l m) refl (bit-at-place v l ms) h
+  where
+    go : (b : Bool) → eqb l m ≡ b → (has l ms ≡ true → bitAt (row v ms) (place l ms) ≡ v l) → (b || has l ms) ≡ true → bitAt (row v (m ∷ ms)) (cond b 0 (suc (place l ms))) ≡ v l
+    go true e ih h = last (v m) (row v ms) ∙ ap v (sym (eqb-true l m e))
+    go false e ih h = ap (λ n. bitAt n (place l ms)) (half (v m) (row v ms)) ∙ ih h
 
--- two valuations that agree on leaves
-abbrev pub Agree : List ℕ → (ℕ → Bool) → (ℕ → Bool) → Type 0
-Agree ls v w = (l : ℕ) → T (has l ls) → v l ≡ w l
+valuation-of-row : (v : ℕ → Bool) (ls : List ℕ) → Alike ls (valuation ls (row v ls)) v
+valuation-of-row v ls l h = rw h (bit-at-place v l ls h)
 
-is-true : (b : Bool) → T b → b ≡ true
-is-true true t = refl
-is-true false t = absurd t
-
-valuation-of-row : (v : ℕ → Bool) (ls : List ℕ) → Agree ls (valuation ls (row v ls)) v
-valuation-of-row v ls l h = simp (is-true (has l ls) h) (bit-at-place v l ls h)
-
-pub tabulate-value : (p : ℕ) (ls : List ℕ) (f : (ℕ → Bool) → Bool) → length ls ≤ p → ((v w : ℕ → Bool) → Agree ls v w → f v ≡ f w) → (v : ℕ → Bool) → valueOf (record { leaves = ls; table = tabulate p ls f }) v ≡ f v
+pub tabulate-value : Tables-read-back
 unfolding tabulate
 tabulate-value p ls f fits local v =
     bit-rows (λ j. f (valuation ls j)) 0 (2 ^ p) (row v ls) (omega (arith, row-below v ls, pow-mono fits))
-    ∙ local (valuation ls (0 + row v ls)) v (subst (λ n. Agree ls (valuation ls n) v) (sym (zero-add (row v ls))) (valuation-of-row v ls))
-
--- joining: the value of the joined cut, before masked leaves go
+    ∙ local (valuation ls (0 + row v ls)) v (subst (λ n. Alike ls (valuation ls n) v) (sym (zero-add (row v ls))) (valuation-of-row v ls))

@@ -1,62 +1,12 @@
--- What holds of every cut of a list, of the chosen ones, and of whatever a search over pairs of cuts comes to.
-use mathlib.Core.Path.{_≡_, refl, sym, ap, _∙_, subst}
-use mathlib.Core.Bool.{Bool, true, false, cond}
-use mathlib.Core.List.{List, [], _∷_, _++_, List·Memᴰ, List·Memᴰ·head, List·Memᴰ·tail, List·Memᴰ·cases-cons, List·Memᴰ·not-nil}
-use mathlib.Core.Logic.{_⊎_, inl, inr, ⊎-elim}
-use Prim.Native.Nat.{ℕ, zero, suc}
-use lib.ListN.{take}
+-- What holds of whatever a search over pairs of cuts comes to.
+use mathlib.Core.Bool.{Bool}
+use mathlib.Core.List.{List, [], _∷_}
+use Prim.Native.Nat.{ℕ}
 use Rattle.std.specs.declared.option.Option.{Option}
-use Rattle.std.specs.declared.option.Option.the-variants.{Some, None}
 use Rattle.model.specs.Cuts.{Cut}
-use Rattle.model.specs.Keys.{holds, added}
-use Rattle.model.specs.Rankings.{Every, rankIn, ranked, firstBy}
-use Rattle.model.specs.Search.{Decision, folded, shared, merged, made, Search, ended, candidates, after, along, considered, searchRow, searchAll, chosen}
-
-module _ {A : Type 0} (P : A → Type 0) where
-  pub every-mem : (xs : List A) → Every P xs → (x : A) → List·Memᴰ x xs → P x
-  every-mem [] e x m = absurd (List·Memᴰ·not-nil m)
-  every-mem (y ∷ xs) e x m = ⊎-elim (λ q. subst P (sym q) (e .0)) (every-mem xs (e .1) x) (List·Memᴰ·cases-cons m)
-
-  pub mem-every : (xs : List A) → ((x : A) → List·Memᴰ x xs → P x) → Every P xs
-  mem-every [] h = tt
-  mem-every (x ∷ xs) h = (h x (List·Memᴰ·head refl), mem-every xs (λ y m. h y (List·Memᴰ·tail m)))
-
-  pub every-append : (xs ys : List A) → Every P xs → Every P ys → Every P (xs ++ ys)
-  every-append [] ys h k = k
-  every-append (x ∷ xs) ys h k = (h .0, every-append xs ys (h .1) k)
-
-  pub every-added : (mean : A → List ℕ) (x : A) (xs : List A) → P x → Every P xs → Every P (added mean x xs)
-  every-added mean x xs p e = go (holds mean (mean x) xs)
-    where
-      go : (b : Bool) → Every P (cond b xs (xs ++ (x ∷ [])))
-      go true = e
-      go false = every-append xs (x ∷ []) e (p, tt)
-
-  pub every-take : (n : ℕ) (xs : List A) → Every P xs → Every P (take n xs)
-  every-take zero xs e = tt
-  every-take (suc n) [] e = tt
-  every-take (suc n) (x ∷ xs) e = (e .0, every-take n xs (e .1))
-
-  pub every-inserted : (before : A → A → Bool) (x : A) (ys : List A) → P x → Every P ys → Every P (rankIn before x ys)
-  unfolding rankIn
-  every-inserted before x [] p e = (p, tt)
-  every-inserted before x (y ∷ ys) p e = go (before x y) (every-inserted before x ys p (e .1))
-    where
-      go : (b : Bool) → Every P (rankIn before x ys) → Every P (cond b (x ∷ (y ∷ ys)) (y ∷ rankIn before x ys))
-      go true h = (p, e)
-      go false h = (e .0, h)
-
-  pub every-ranked : (before : A → A → Bool) (xs done : List A) → Every P xs → Every P done → Every P (ranked before xs done)
-  unfolding ranked
-  every-ranked before [] done e d = d
-  every-ranked before (x ∷ xs) done e d = every-ranked before xs (rankIn before x done) (e .1) (every-inserted before x done (e .0) d)
-
-  pub every-first : (before : A → A → Bool) (n : ℕ) (xs : List A) → Every P xs → Every P (firstBy before n xs)
-  every-first before n xs e = every-take n (ranked before xs []) (every-ranked before xs [] e tt)
-
-pub every-both : {A : Type 0} (P Q : A → Type 0) (xs : List A) → ((x : A) → P x → Q x) → Every P xs → Every Q xs
-every-both P Q [] f e = tt
-every-both P Q (x ∷ xs) f e = (f x (e .0), every-both P Q xs f (e .1))
+use Rattle.model.specs.Rankings.{Every, firstBy}
+use Rattle.model.specs.Search.{Decision, made, Search, ended, candidates, after, along, considered, searchRow, searchAll, chosen}
+use Rattle.model.proofs.Lists.{every-chosen}
 
 -- a search ended in a decision that D holds of, or has candidates that C holds of
 abbrev pub Comes : (Cut → Type 0) → (Decision → Type 0) → Search → Type 0
@@ -83,4 +33,4 @@ module _ (C : Cut → Type 0) (D : Decision → Type 0) where
 
   pub chosen-comes : (n : ℕ) (before : Cut → Cut → Bool) (s : Search) → Comes C D s → ((cs : List Cut) → Every C cs → D (made cs)) → D (chosen n before s)
   chosen-comes n before (ended d) h k = h
-  chosen-comes n before (candidates cs) h k = k (firstBy before n cs) (every-first C before n cs h)
+  chosen-comes n before (candidates cs) h k = k (firstBy before n cs) (every-chosen C before n cs h)

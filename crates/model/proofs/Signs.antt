@@ -1,16 +1,13 @@
 -- Edges, their signs, and their values in a graph.
-use mathlib.Core.Path.{_≡_, refl, sym, ap, ap₂, _∙_, subst}
-use mathlib.Core.Bool.{Bool, true, false, not, cond, _&&_, _||_, Bool·not-not}
-use mathlib.Core.List.{List, [], _∷_}
-use mathlib.Core.Logic.{_⊎_, inl, inr, ⊎-elim}
-use Prim.Native.Nat.{ℕ, zero, suc, _+_, _-_, _*_, _/_, _%_, _<_, _≤_}
+use mathlib.Core.Path.{_≡_, refl, sym, ap, ap₂, _∙_}
+use mathlib.Core.Bool.{Bool, true, false, not, cond, Bool·not-not}
+use Prim.Native.Nat.{ℕ, _+_, _-_, _*_, _/_, _%_}
 use native.Mathlib.Omega.{arith}
 use lib.Dec.{eqb}
-use lib.ListN.{length}
-use Rattle.std.proofs.shelf.Tests.{eq-eqb, ne-eqb, eqb-true, eqb-false, cases-bool, both-ways}
+use Rattle.std.proofs.shelf.Tests.{eqb-true, eqb-false}
 use Rattle.model.specs.Tables.{number, flipIf}
 use Rattle.model.specs.Edges.{nodeOf, signOf, edge, signed}
-use Rattle.model.specs.Graphs.{Graph, at, bits, signals, edgeSignal, value, edgeValue}
+use Rattle.model.specs.Graphs.{Graph, bits, signals, value, edgeValue}
 use Rattle.model.proofs.Growing.{at-zero}
 
 pub node-edge : (n : ℕ) (s : Bool) → nodeOf (edge n s) ≡ n

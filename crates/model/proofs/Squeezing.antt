@@ -1,21 +1,21 @@
 -- Masked leaves dropped one by one, and the table stretched back.
 use mathlib.Core.Path.{_≡_, refl, sym, ap, ap₂, _∙_, subst}
-use mathlib.Core.Bool.{Bool, true, false, not, cond}
+use mathlib.Core.Bool.{Bool, true, false, cond}
 use mathlib.Core.List.{List, [], _∷_, _++_}
 use mathlib.Core.Logic.{_⊎_, inl, inr, ⊎-elim}
-use Prim.Native.Nat.{ℕ, zero, suc, _+_, _-_, _*_, _^_, _<_, _≤_}
+use Prim.Native.Nat.{ℕ, zero, suc, _+_, _^_, _<_, _≤_}
 use native.Mathlib.Nat.{zero-add, add-zero}
 use native.Mathlib.Omega.{arith}
-use lib.Dec.{eqb, ltb, leb}
+use lib.Dec.{ltb}
 use lib.ListN.{length, getD, take, set, length-set}
 use lib.Seq.{take-suc, take-suc-set, getD-set-other, length-take-le, take-length}
-use Rattle.std.proofs.shelf.Tests.{lt-ltb, le-ltb, eq-eqb, ne-eqb, cases-eq, cases-lt, cases-bool, both-ways}
-use Rattle.model.specs.Cuts.{Cut, valueOf, tabulate, needed, squeeze}
-use Rattle.model.specs.Tables.{bitAt, masked, span, val, put, Free, Rests, Loose}
-use Rattle.model.specs.Leaves.{has, place, valuation, Rising, Within}
-use Rattle.model.proofs.Positions.{val-same, val-at, put-same, put-other}
+use Rattle.std.proofs.shelf.Tests.{lt-ltb, le-ltb, eq-eqb, cases-eq, cases-lt, cases-bool}
+use Rattle.model.specs.Cuts.{valueOf, tabulate, needed, squeeze}
+use Rattle.model.specs.Tables.{bitAt, masked, val, put, Free, Rests, Loose}
+use Rattle.model.specs.Leaves.{has, place, valuation, Rising}
+use Rattle.model.proofs.Positions.{val-same, val-at, put-other}
 use Rattle.model.proofs.Masked.{agree-free, masked-free, rests-loose}
-use Rattle.model.proofs.Places.{place-in, place-of, has-at}
+use Rattle.model.proofs.Places.{place-of, has-at}
 use Rattle.model.proofs.Stretching.{val-list, is-tabulated, tabulate-rests}
 
 -- how many of the q positions from k on are not masked

@@ -1,6 +1,6 @@
 -- What one call can do to a session and answer, said once.
 use mathlib.Core.Path.{_≡_, refl, ap}
-use mathlib.Core.List.{List}
+use mathlib.Core.List.{List, []}
 use Prim.Native.Nat.{ℕ, suc, _<_, _≤_}
 use native.Mathlib.Omega.{arith}
 use lib.Dec.{eqb, leb, ltb}
@@ -31,55 +31,31 @@ pub data Change (p : ℕ) (s : State) (c : Call p) (u : After) : Type 0 where
   output-added : (e : ℕ) → c ≡ output-call e → nodeOf e ≤ length (s .source) → length (s .outputs) < s .outputRows
       → u ≡ withOutput s (mapEdge s e) → Change p s c u
 
--- a refusal adds nothing, whatever the call
-refused-source : {p : ℕ} (c : Call p) (f : Refusal) (g : Graph) → toldBy c (refused f) g ≡ g
-refused-source input-call f g = refl
-refused-source (gate-call r a b) f g = refl
-refused-source (output-call e) f g = refl
-refused-source (map-call e) f g = refl
-refused-source (walk-call side n m) f g = refl
-refused-source (cone-call e n m) f g = refl
-
-refused-outputs : {p : ℕ} (c : Call p) (f : Refusal) (os : List ℕ) → outputBy c (refused f) os ≡ os
-refused-outputs input-call f os = refl
-refused-outputs (gate-call r a b) f os = refl
-refused-outputs (output-call e) f os = refl
-refused-outputs (map-call e) f os = refl
-refused-outputs (walk-call side n m) f os = refl
-refused-outputs (cone-call e n m) f os = refl
+-- a refusal tells nothing, whatever the call
+refused-tells : {p : ℕ} (c : Call p) (f : Refusal) (g : Graph) (os : List ℕ) → (toldBy c (refused f) g ≡ g) × (outputBy c (refused f) os ≡ os)
+refused-tells input-call f g os = (refl, refl)
+refused-tells (gate-call r a b) f g os = (refl, refl)
+refused-tells (output-call e) f g os = (refl, refl)
+refused-tells (map-call e) f g os = (refl, refl)
+refused-tells (walk-call side n m) f g os = (refl, refl)
+refused-tells (cone-call e n m) f g os = (refl, refl)
 
 module _ {p : ℕ} (s : State) where
+  looked : (c : Call p) (a : Answer) → ((g : Graph) → toldBy c a g ≡ g) → ((os : List ℕ) → outputBy c a os ≡ os) → ((t : Tally) → answeredBy a t ≡ t)
+      → ((o : Outcome) (e : ℕ) → a ≡ swept o e → ⊥) → Change p s c (looks s a)
+  looked c a source outputs tally unswept = same a (record { source = source; outputs = outputs; tally = tally; unswept = unswept }) refl
+
   declined : (c : Call p) (f : Refusal) → Change p s c (decline s f)
-  declined c f = same (refused f) (record {
-    source = refused-source c f;
-    outputs = refused-outputs c f;
-    tally = λ t. refl;
-    unswept = λ o e h. let z : _≡_ {A = ℕ} 0 1 = cc in omega arith;
-  }) refl
+  declined c f = looked c (refused f) (λ g. refused-tells c f g [] .0) (λ os. refused-tells c f [] os .1) (λ t. refl) (λ o e h. let z : _≡_ {A = ℕ} 0 1 = cc in omega arith)
 
   mapped-by : (e f : ℕ) → Change p s (map-call e) (looks s (mapped-edge f))
-  mapped-by e f = same (mapped-edge f) (record {
-    source = λ g. refl;
-    outputs = λ os. refl;
-    tally = λ t. refl;
-    unswept = λ o e h. let z : _≡_ {A = ℕ} 0 1 = cc in omega arith;
-  }) refl
+  mapped-by e f = looked (map-call e) (mapped-edge f) (λ g. refl) (λ os. refl) (λ t. refl) (λ o e h. let z : _≡_ {A = ℕ} 0 1 = cc in omega arith)
 
   walked-by : (side : Side) (n m k : ℕ) → Change p s (walk-call side n m) (looks s (filled k))
-  walked-by side n m k = same (filled k) (record {
-    source = λ g. refl;
-    outputs = λ os. refl;
-    tally = λ t. refl;
-    unswept = λ o e h. let z : _≡_ {A = ℕ} 0 1 = cc in omega arith;
-  }) refl
+  walked-by side n m k = looked (walk-call side n m) (filled k) (λ g. refl) (λ os. refl) (λ t. refl) (λ o e h. let z : _≡_ {A = ℕ} 0 1 = cc in omega arith)
 
   counted-by : (e n m k : ℕ) → Change p s (cone-call e n m) (looks s (counted k))
-  counted-by e n m k = same (counted k) (record {
-    source = λ g. refl;
-    outputs = λ os. refl;
-    tally = λ t. refl;
-    unswept = λ o e h. let z : _≡_ {A = ℕ} 0 1 = cc in omega arith;
-  }) refl
+  counted-by e n m k = looked (cone-call e n m) (counted k) (λ g. refl) (λ os. refl) (λ t. refl) (λ o e h. let z : _≡_ {A = ℕ} 0 1 = cc in omega arith)
 
 pub change : (p : ℕ) (s : State) (c : Call p) → Change p s c (step p s c)
 unfolding step

@@ -1,20 +1,20 @@
 -- A stretched table by its positions is the tabulated one.
-use mathlib.Core.Path.{_≡_, refl, sym, ap, ap₂, _∙_, subst}
-use mathlib.Core.Bool.{Bool, true, false, not, cond}
+use mathlib.Core.Path.{_≡_, refl, sym, ap, ap₂, _∙_}
+use mathlib.Core.Bool.{Bool, true, false, cond}
 use mathlib.Core.List.{List, [], _∷_}
-use mathlib.Core.Logic.{_⊎_, inl, inr, ⊎-elim}
+use mathlib.Core.Logic.{⊎-elim}
 use Prim.Native.Nat.{ℕ, zero, suc, _+_, _-_, _*_, _^_, _<_, _≤_}
 use native.Mathlib.Nat.{zero-add}
 use native.Mathlib.Omega.{arith}
-use lib.Dec.{eqb, ltb, leb}
+use lib.Dec.{ltb, leb}
 use lib.ListN.{length, getD}
 use Rattle.std.proofs.shelf.Tests.{lt-ltb, le-ltb, lt-leb, le-leb, eq-eqb, ne-eqb, cases-eq, cases-lt}
-use Rattle.model.specs.Cuts.{Cut, valueOf, tabulate}
-use Rattle.model.specs.Tables.{bitAt, row, number, rowsFrom, span, val, put, Free, Rests}
+use Rattle.model.specs.Cuts.{valueOf, tabulate}
+use Rattle.model.specs.Tables.{bitAt, row, number, span, val, put, Rests}
 use Rattle.model.specs.Leaves.{has, place, valuation, Rising, Within}
 use Rattle.model.proofs.Rows.{bit-rows}
 use Rattle.model.proofs.Bits.{rows-below, same-bits}
-use Rattle.model.proofs.Positions.{val-row-below, val-same, val-bit, val-at, put-other}
+use Rattle.model.proofs.Positions.{val-row-below, val-bit, val-at, put-other}
 use Rattle.model.proofs.Masked.{agree-rests}
 use Rattle.model.proofs.Places.{place-in, rising-one, pos-in, pos-less, pos-gap, pos-up, pos-stay}
 

@@ -1,21 +1,20 @@
 -- A position is free exactly when the leaf there does not matter; so a squeezed table depends on each of its leaves.
-use mathlib.Core.Path.{_≡_, refl, sym, ap, ap₂, _∙_, subst}
-use mathlib.Core.Bool.{Bool, true, false, not, cond}
-use mathlib.Core.List.{List, [], _∷_}
-use mathlib.Core.Logic.{_⊎_, inl, inr, ⊎-elim}
-use Prim.Native.Nat.{ℕ, zero, suc, _+_, _-_, _*_, _^_, _<_, _≤_}
-use native.Mathlib.Nat.{zero-add, add-zero}
+use mathlib.Core.Path.{_≡_, refl, sym, ap, _∙_, subst}
+use mathlib.Core.Bool.{Bool, true, false, cond}
+use mathlib.Core.List.{List}
+use mathlib.Core.Logic.{inl, inr, ⊎-elim}
+use Prim.Native.Nat.{ℕ, _<_, _≤_}
+use native.Mathlib.Nat.{zero-add}
 use native.Mathlib.Omega.{arith}
-use lib.Dec.{T, eqb, ltb}
+use lib.Dec.{eqb}
 use lib.ListN.{length, getD}
 use Rattle.std.proofs.shelf.Tests.{eq-eqb, ne-eqb, cases-eq, cases-lt, cases-bool, both-ways}
-use Rattle.model.specs.CutLaws.{Idle}
+use Rattle.model.specs.CutLaws.{Alike, Idle}
 use Rattle.model.specs.Cuts.{Cut, valueOf, tabulate, needed}
-use Rattle.model.specs.Tables.{bitAt, row, masked, span, val, put, Free, Rests}
-use Rattle.model.specs.Leaves.{has, place, valuation, Rising}
-use Rattle.model.proofs.Rows.{Agree, tabulate-value}
-use Rattle.model.proofs.Positions.{put-same, put-other}
-use Rattle.model.proofs.Masked.{agree-free, agree-rests, masked-free, free-masked}
+use Rattle.model.specs.Tables.{masked, put, Free, Rests}
+use Rattle.model.specs.Leaves.{has, place, Rising}
+use Rattle.model.proofs.Rows.{tabulate-value}
+use Rattle.model.proofs.Masked.{agree-free, masked-free, free-masked}
 use Rattle.model.proofs.Places.{place-of, has-at, rising-one}
 use Rattle.model.proofs.Stretching.{val-list, tabulate-rests}
 use Rattle.model.proofs.Squeezing.{needed-at, needed-few, needed-rising, needed-open}
@@ -45,7 +44,7 @@ module _ (p t : ℕ) (ls : List ℕ) (few : length ls ≤ p) (rising : Rising ls
       ∙ val-list p t ls u v few rests back
 
   -- the cut looks at the leaves that are needed only
-  pub needed-local : (v w : ℕ → Bool) → ((l : ℕ) → T (has l (needed p t 0 ls)) → v l ≡ w l) → valueOf cut v ≡ valueOf cut w
+  pub needed-local : (v w : ℕ → Bool) → Alike (needed p t 0 ls) v w → valueOf cut v ≡ valueOf cut w
   needed-local v w h =
       val-list p t ls v (λ q. v (getD ls q 0)) few rests (λ q l. refl)
       ∙ agree-free p t (λ q. v (getD ls q 0)) (λ q. w (getD ls q 0)) (λ q k. ⊎-elim
@@ -54,7 +53,7 @@ module _ (p t : ℕ) (ls : List ℕ) (few : length ls ≤ p) (rising : Rising ls
       (λ (e : masked p t q ≡ false).
       let n = needed-at p t 0 ls q a (ap (masked p t) (zero-add q) ∙ e) in
       let m : has (getD ls q 0) (needed p t 0 ls) ≡ true = subst (λ x. has x (needed p t 0 ls) ≡ true) (n .0) (has-at (needed p t 0 ls) _ (n .1)) in
-      inl (h (getD ls q 0) (subst T (sym m) tt)))
+      inl (h (getD ls q 0) m))
       (cases-bool (masked p t q)))
       (λ (a : length ls ≤ q). inr (rests q a k))
       (cases-lt q (length ls)))

@@ -1,16 +1,15 @@
 -- Two well-formed cuts with one meaning are one cut.
 use mathlib.Core.Path.{_≡_, refl, sym, ap, ap₂, _∙_, subst}
-use mathlib.Core.Bool.{Bool, true, false, not, cond, _||_}
+use mathlib.Core.Bool.{Bool, true, false}
 use mathlib.Core.List.{List, [], _∷_}
-use mathlib.Core.Logic.{_⊎_, inl, inr, ⊎-elim}
-use Prim.Native.Nat.{ℕ, zero, suc, _+_, _-_, _*_, _^_, _<_, _≤_}
+use mathlib.Core.Logic.{⊎-elim}
+use Prim.Native.Nat.{ℕ, zero, suc, _<_, _≤_}
 use native.Mathlib.Omega.{arith}
-use lib.Dec.{eqb}
 use lib.ListN.{length, getD}
-use Rattle.std.proofs.shelf.Tests.{eq-eqb, ne-eqb, eqb-true, cases-eq, cases-bool, both-ways}
+use Rattle.std.proofs.shelf.Tests.{eq-eqb, ne-eqb, cases-eq, cases-bool, both-ways}
 use Rattle.model.specs.Cuts.{Formed, Cut, valueOf}
 use Rattle.model.specs.Leaves.{has, place, Rising}
-use Rattle.model.specs.Tables.{masked, val, put, Free, Rests}
+use Rattle.model.specs.Tables.{masked, put, Rests}
 use Rattle.model.proofs.Positions.{put-other, same-tables}
 use Rattle.model.proofs.Masked.{both, free-masked}
 use Rattle.model.proofs.Places.{place-in, place-of, has-at}

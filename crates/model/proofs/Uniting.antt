@@ -1,17 +1,18 @@
 -- Two rising lists united, the least first.
-use mathlib.Core.Path.{_≡_, refl, sym, ap, ap₂, _∙_, subst}
-use mathlib.Core.Bool.{Bool, true, false, not, cond, _||_}
+use mathlib.Core.Path.{_≡_, refl, sym, ap, ap₂, _∙_}
+use mathlib.Core.Bool.{Bool, true, false, cond, _||_, or-assoc, or-true, or-self-left}
 use mathlib.Core.List.{List, [], _∷_, _++_, append-assoc, append-nil}
 use mathlib.Core.Logic.{_⊎_, inl, inr, ⊎-elim}
-use Prim.Native.Nat.{ℕ, zero, suc, _+_, _-_, _*_, _^_, _<_, _≤_}
-use native.Mathlib.Nat.{zero-add, add-zero}
+use Prim.Native.Nat.{ℕ, zero, suc, _+_, _<_, _≤_}
 use native.Mathlib.Omega.{arith}
-use lib.Dec.{eqb, ltb, leb}
+use lib.Dec.{eqb, ltb}
 use lib.ListN.{length, getD, take, drop, set, length-set, length-append, length-drop}
 use lib.Seq.{take-suc-set, getD-set-other, length-take-le, drop-cons, drop-nil, getD-drop}
-use Rattle.std.proofs.shelf.Tests.{lt-ltb, le-ltb, eq-eqb, ne-eqb, ltb-true, ltb-false, eqb-true, eqb-false, cases-eq, cases-lt, cases-bool, cases-order}
+use Rattle.std.proofs.shelf.Tests.{lt-ltb, le-ltb, eq-eqb, ne-eqb, ltb-true, ltb-false, eqb-true, eqb-false, cases-eq, or-cases}
 use Rattle.model.specs.Leaves.{has, insert, unite, Rising, Within}
+use Rattle.model.specs.Rankings.{Every}
 use Rattle.model.proofs.Places.{has-at}
+use Rattle.model.proofs.Lists.{or-swap, every-in, every-from}
 
 abbrev pub Above : ℕ → List ℕ → Type 0
 Above x zs = (q : ℕ) → q < length zs → x < getD zs q 0
@@ -76,39 +77,26 @@ insert-has : (l x : ℕ) (zs : List ℕ) → has l (insert x zs) ≡ (eqb l x ||
 insert-has l x [] = refl
 insert-has l x (z ∷ zs) = go (ltb x z) refl (eqb x z) refl (insert-has l x zs)
   where
-    swap : (a b c : Bool) → (b || (a || c)) ≡ (a || (b || c))
-    swap true true c = refl
-    swap true false c = refl
-    swap false true c = refl
-    swap false false c = refl
-
-    double : (a c : Bool) → (a || c) ≡ (a || (a || c))
-    double true c = refl
-    double false c = refl
-
     go : (s : Bool) → ltb x z ≡ s → (t : Bool) → eqb x z ≡ t → has l (insert x zs) ≡ (eqb l x || has l zs)
-        → has l (cond s (x ∷ (z ∷ zs)) (cond t (z ∷ zs) (z ∷ insert x zs))) ≡ ((eqb l x) || (eqb l z || has l zs))
+        → has l (cond s (x ∷ (z ∷ zs)) (cond t (z ∷ zs) (z ∷ insert x zs))) ≡ (eqb l x || (eqb l z || has l zs))
     go true e t f ih = refl
-    go false e true f ih = ap (λ n. (eqb l n || has l zs)) (sym (eqb-true x z f)) ∙ double (eqb l x) (has l zs) ∙ ap (λ n. ((eqb l x) || (eqb l n || has l zs))) (eqb-true x z f)
-    go false e false f ih = ap (_||_ (eqb l z)) ih ∙ swap (eqb l x) (eqb l z) (has l zs)
-
-or-assoc : (a b c : Bool) → (a || (b || c)) ≡ ((a || b) || c)
-or-assoc true b c = refl
-or-assoc false b c = refl
+    go false e true f ih = ap (λ n. eqb l n || has l zs) (sym (eqb-true x z f)) ∙ sym (or-self-left (eqb l x) (has l zs)) ∙ ap (λ n. eqb l x || (eqb l n || has l zs)) (eqb-true x z f)
+    go false e false f ih = ap (_||_ (eqb l z)) ih ∙ or-swap (eqb l z) (eqb l x) (has l zs)
 
 pub unite-has : (l : ℕ) (xs ys : List ℕ) → has l (unite xs ys) ≡ (has l xs || has l ys)
 unite-has l [] ys = refl
-unite-has l (x ∷ xs) ys = insert-has l x (unite xs ys) ∙ ap (_||_ (eqb l x)) (unite-has l xs ys) ∙ or-assoc (eqb l x) (has l xs) (has l ys)
+unite-has l (x ∷ xs) ys = insert-has l x (unite xs ys) ∙ ap (_||_ (eqb l x)) (unite-has l xs ys) ∙ sym (or-assoc (eqb l x) (has l xs) (has l ys))
 
 pub within-left : (xs ys : List ℕ) → Within xs (unite xs ys)
 within-left xs ys q h = unite-has (getD xs q 0) xs ys ∙ rw (has-at xs q h)
 
-or-true : (a : Bool) → (a || true) ≡ true
-or-true true = refl
-or-true false = refl
-
 pub within-right : (xs ys : List ℕ) → Within ys (unite xs ys)
 within-right xs ys q h = unite-has (getD ys q 0) xs ys ∙ rw (has-at ys q h) (or-true (has (getD ys q 0) xs))
+
+-- what holds of the leaves of both holds of the united ones
+pub every-united : (P : ℕ → Type 0) (xs ys : List ℕ) → Every P xs → Every P ys → Every P (unite xs ys)
+every-united P xs ys ex ey =
+    every-from P (unite xs ys) (λ l h. ⊎-elim (every-in P xs l ex) (every-in P ys l ey) (or-cases (has l xs) (has l ys) (sym (unite-has l xs ys) ∙ h)))
 
 -- rising
 insert-rising : (x : ℕ) (zs : List ℕ) → Rising zs → Rising (insert x zs)

@@ -14,7 +14,7 @@ pub record Choice (before : Cut → Cut → Bool) (n : ℕ) (d : Cut) (cs : List
   pub first : First before n d cs (firstBy before n cs)
   pub only : (ks : List Cut) → First before n d cs ks → ks ≡ firstBy before n cs
   pub none : (ks : List Cut) (f : First before n d cs ks) (i q : ℕ) → i < length cs → q < length (f .places)
-    → ((r : ℕ) × (r < length (f .places)) × (getD (f .places) r 0 ≡ i)) ⊎ (before (getD cs i d) (getD cs (getD (f .places) q 0) d) ≡ false)
+      → ((r : ℕ) × (r < length (f .places)) × (getD (f .places) r 0 ≡ i)) ⊎ (before (getD cs i d) (getD cs (getD (f .places) q 0) d) ≡ false)
 
 abbrev pub Choosing-keeps-the-first : Type 0
 Choosing-keeps-the-first = (p : ℕ) (r : Ranking p) (leaf : ℕ → LeafFacts) (n : ℕ) (d : Cut) (cs : List Cut)

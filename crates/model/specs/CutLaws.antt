@@ -1,6 +1,6 @@
 -- Laws of tables and cuts, over any number of positions.
 use mathlib.Core.Bool.{Bool, true, false, not, cond, _&&_}
-use mathlib.Core.List.{List, [], _∷_}
+use mathlib.Core.List.{List}
 use mathlib.Core.Path.{_≡_}
 use Prim.Native.Nat.{ℕ, _<_, _≤_}
 use lib.Bits.{bitAnd}
@@ -57,7 +57,7 @@ Joining-is-and = (p : ℕ) (a : Cut) (s : Bool) (b : Cut) (t : Bool) → Formed 
 abbrev pub Joined-words : Type 0
 Joined-words = (p : ℕ) (a : Cut) (s : Bool) (b : Cut) (t : Bool) (ls : List ℕ)
     → bitAnd (cond s (complemented p (stretched p a ls)) (stretched p a ls)) (cond t (complemented p (stretched p b ls)) (stretched p b ls))
-      ≡ tabulate p ls (λ v. flipIf s (valueOf a v) && flipIf t (valueOf b v))
+    ≡ tabulate p ls (λ v. flipIf s (valueOf a v) && flipIf t (valueOf b v))
 
 -- two well-formed cuts of one meaning are one cut
 abbrev pub One-meaning-one-cut : Type 0

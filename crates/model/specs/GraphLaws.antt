@@ -1,11 +1,11 @@
 -- Laws of graphs: what one more node leaves as it was.
 use mathlib.Core.Bool.{Bool}
-use mathlib.Core.List.{List, [], _∷_}
+use mathlib.Core.List.{List, _∷_}
 use mathlib.Core.Path.{_≡_}
 use Prim.Native.Nat.{ℕ, _*_, _≤_}
 use lib.ListN.{length}
 use Rattle.model.specs.Cuts.{Cut, valueOf}
-use Rattle.model.specs.Graphs.{Node, Graph, at, value, edgeValue, height, cutsOf}
+use Rattle.model.specs.Graphs.{Node, Graph, value, edgeValue, height, cutsOf}
 use Rattle.model.specs.Edges.{nodeOf}
 use Rattle.model.specs.Rankings.{Every}
 use Rattle.model.specs.Sessions.{Tables, capacityOf}

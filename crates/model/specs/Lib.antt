@@ -1,3 +1,4 @@
+-- The definitions and the statements, each module after those that it rests on.
 pub mod Tables
 pub mod Leaves
 pub mod Cuts

@@ -4,7 +4,7 @@ use mathlib.Core.List.{List, [], _∷_, map}
 use mathlib.Core.Logic.{_⊎_}
 use mathlib.Core.Path.{_≡_}
 use Prim.Native.Nat.{ℕ, suc, _+_, _*_, _/_, _<_, _≤_, min}
-use lib.Dec.{eqb, ltb}
+use lib.Dec.{ltb}
 use lib.ListN.{length, getD, take}
 use Rattle.model.specs.Tables.{number}
 
@@ -34,7 +34,7 @@ pub record Lawful (p : ℕ) (before : Before) (mark : Bool) : Type 0 where
   pub irreflexive : (a : Facts) → Sized p a → before a a ≡ false
   pub transitive : (a b c : Facts) → Sized p a → Sized p b → Sized p c → before a b ≡ true → before b c ≡ true → before a c ≡ true
   pub ties : (a b c : Facts) → Sized p a → Sized p b → Sized p c
-    → before a b ≡ false → before b a ≡ false → before b c ≡ false → before c b ≡ false → before a c ≡ false
+      → before a b ≡ false → before b a ≡ false → before b c ≡ false → before c b ≡ false → before a c ≡ false
   pub inputs-first : mark ≡ true → (a b : Facts) → Sized p a → Sized p b → anyGate a ≡ false → anyGate b ≡ true → before a b ≡ true
 
 pub record Ranking (p : ℕ) : Type 0 where

@@ -1,8 +1,8 @@
 -- The lines of a net and of a report, and which of them a session's listing has.
-use mathlib.Core.List.{List, [], _∷_, _++_, map}
+use mathlib.Core.List.{List, [], _∷_, _++_}
 use Prim.Native.Nat.{ℕ, suc}
 use lib.ListN.{length}
-use Rattle.model.specs.Graphs.{Node, input, gate, Graph}
+use Rattle.model.specs.Graphs.{input, gate, Graph}
 use Rattle.model.specs.Rankings.{Ranking}
 use Rattle.model.specs.Sessions.{State, Tally, Call, input-call, gate-call, output-call}
 

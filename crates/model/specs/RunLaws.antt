@@ -4,16 +4,16 @@ use mathlib.Core.List.{List, [], _∷_, map, List·Memᴰ}
 use mathlib.Core.Logic.{_⊎_}
 use mathlib.Core.Path.{_≡_}
 use Prim.Native.Nat.{ℕ, suc, _+_, _*_, _<_, _≤_, min, max}
-use lib.ListN.{length, getD}
+use lib.ListN.{length}
 use Rattle.std.specs.declared.option.Option.{Option}
 use Rattle.std.specs.declared.option.Option.the-variants.{Some, None}
 use Rattle.model.specs.Edges.{nodeOf, signOf, edge}
 use Rattle.model.specs.Cuts.{Cut, valueOf, Formed, joined, keyOf, keyList}
 use Rattle.model.specs.Keys.{added}
-use Rattle.model.specs.Graphs.{Node, input, gate, Graph, at, inputs, Ordered, value, edgeValue, cutsOf, findKey}
-use Rattle.model.specs.Rankings.{Ranking, Before, Every, First}
+use Rattle.model.specs.Graphs.{input, gate, Graph, at, inputs, Ordered, value, edgeValue, cutsOf, findKey}
+use Rattle.model.specs.Rankings.{Ranking, Every, First}
 use Rattle.model.specs.Search.{Limits, byLeaves, leafIn, pairs}
-use Rattle.model.specs.Sessions.{positions, lean, State, Tables, Tally, Outcome, was-made, was-folded, was-shared, was-merged, raised, noTally, mapEdge, capacityOf, nodeLimit, outputLimit, step}
+use Rattle.model.specs.Sessions.{positions, lean, State, Tables, Tally, Outcome, was-made, raised, noTally, mapEdge, capacityOf, nodeLimit, outputLimit, step}
 use Rattle.model.specs.Sessions.{Call, input-call, gate-call, output-call, map-call, walk-call, cone-call, Answer, node, swept, mapped-edge, filled, counted, refused, Refusal}
 use Rattle.model.specs.GraphLaws.{Describes}
 use Rattle.model.specs.Runs.{Event, Run, Steps}
@@ -26,7 +26,7 @@ pub record Equal-signals (p : ℕ) (s : State) : Type 0 where
   pub edges : (env : ℕ → Bool) (e : ℕ) → nodeOf e ≤ length (s .source) → edgeValue (s .source) env e ≡ edgeValue (s .reduced) env (mapEdge s e)
   pub cuts : (n : ℕ) → 0 < n → n ≤ length (s .reduced) → Every (λ c. Formed p c × Describes (s .reduced) c n) (cutsOf p (s .kept) n)
   pub keys : (c : Cut) (e : ℕ) → Formed p c → findKey p (s .kept) (keyList p c) ≡ Some e
-    → (env : ℕ → Bool) → valueOf (keyOf p c) (value (s .reduced) env) ≡ edgeValue (s .reduced) env e
+      → (env : ℕ → Bool) → valueOf (keyOf p c) (value (s .reduced) env) ≡ edgeValue (s .reduced) env e
 
 -- ---- a reduced graph
 
@@ -62,9 +62,9 @@ pub record Kept-by (p : ℕ) (before : State) (r : Ranking p) (a b e : ℕ) (now
   pub next : e ≡ edge (suc (length (before .reduced))) false
   pub fanins : at input (now .reduced) (nodeOf e) ≡ gate (lowFanin before a b) (highFanin before a b)
   pub first : (d : Cut) → First (byLeaves (r .before) (leafIn (before .reduced))) (before .limits .kept) d
-    (candidatesOf p (before .limits .leaves) (before .kept) (lowFanin before a b) (highFanin before a b)) (at [] (now .kept) (nodeOf e))
+      (candidatesOf p (before .limits .leaves) (before .kept) (lowFanin before a b) (highFanin before a b)) (at [] (now .kept) (nodeOf e))
   pub none : (c k : Cut) → List·Memᴰ c (candidatesOf p (before .limits .leaves) (before .kept) (lowFanin before a b) (highFanin before a b))
-    → List·Memᴰ k (at [] (now .kept) (nodeOf e)) → List·Memᴰ c (at [] (now .kept) (nodeOf e)) ⊎ (byLeaves (r .before) (leafIn (before .reduced)) c k ≡ false)
+      → List·Memᴰ k (at [] (now .kept) (nodeOf e)) → List·Memᴰ c (at [] (now .kept) (nodeOf e)) ⊎ (byLeaves (r .before) (leafIn (before .reduced)) c k ≡ false)
 
 -- how many gate calls were answered so
 abbrev pub answeredBy : Answer → Tally → Tally
@@ -112,9 +112,9 @@ Inputs-first p es = (e : Event p) (r : Ranking p) (a b : ℕ) (o : Outcome) (f :
 -- one reduced edge exactly for edges that agree under every assignment; no two reduced nodes, the constant among them, are equal or complementary
 pub record Complete (s : State) : Type 0 where
   pub agree : (e f : ℕ) → nodeOf e ≤ length (s .source) → nodeOf f ≤ length (s .source) → mapEdge s e ≡ mapEdge s f
-    → (env : ℕ → Bool) → edgeValue (s .source) env e ≡ edgeValue (s .source) env f
+      → (env : ℕ → Bool) → edgeValue (s .source) env e ≡ edgeValue (s .source) env f
   pub one-edge : (e f : ℕ) → nodeOf e ≤ length (s .source) → nodeOf f ≤ length (s .source)
-    → ((env : ℕ → Bool) → edgeValue (s .source) env e ≡ edgeValue (s .source) env f) → mapEdge s e ≡ mapEdge s f
+      → ((env : ℕ → Bool) → edgeValue (s .source) env e ≡ edgeValue (s .source) env f) → mapEdge s e ≡ mapEdge s f
   pub no-equal : (m n : ℕ) → m ≤ length (s .reduced) → n ≤ length (s .reduced) → ((env : ℕ → Bool) → value (s .reduced) env m ≡ value (s .reduced) env n) → m ≡ n
   pub no-opposite : (m n : ℕ) → m ≤ length (s .reduced) → n ≤ length (s .reduced) → ((env : ℕ → Bool) → value (s .reduced) env m ≡ not (value (s .reduced) env n)) → ⊥
 
@@ -236,7 +236,7 @@ Every-run-is-sound = Over-runs Sound
 pub record Extends (p : ℕ) (s : State) (c : Call p) (u : State) (a : Answer) : Type 0 where
   pub steps : Steps p s c u a
   pub whole : (m : Limits) (t : Tables) (es : List (Event p)) → Fit p m → Run p m t es s
-    → Run p m t (record { before = s; call = c; answer = a } ∷ es) u × Sound p m t (record { before = s; call = c; answer = a } ∷ es) u
+      → Run p m t (record { before = s; call = c; answer = a } ∷ es) u × Sound p m t (record { before = s; call = c; answer = a } ∷ es) u
 
 abbrev pub Calls-extend-runs : Type 0
 Calls-extend-runs = (p : ℕ) (s : State) (c : Call p) → Extends p s c (step p s c .state) (step p s c .answer)

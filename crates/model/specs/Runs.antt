@@ -20,4 +20,4 @@ pub record Event (p : ℕ) : Type 0 where
 pub data Run (p : ℕ) (m : Limits) (t : Tables) : List (Event p) → State → Type 0 where
   opening : {s : State} → s ≡ openedWith m t → Run p m t [] s
   calling : {es : List (Event p)} {s u : State} {c : Call p} {a : Answer} → Run p m t es s → Steps p s c u a
-    → Run p m t (record { before = s; call = c; answer = a } ∷ es) u
+      → Run p m t (record { before = s; call = c; answer = a } ∷ es) u

@@ -1,11 +1,10 @@
 -- How a gate call decides: folding, the pair of fanins, then the joined cuts of both fanins one after another.
-use mathlib.Core.Bool.{Bool, true, false, cond, not, _||_}
+use mathlib.Core.Bool.{Bool, true, cond, _||_}
 use mathlib.Core.List.{List, [], _∷_, _++_, map}
-use Prim.Native.Nat.{ℕ, _+_, _*_}
+use Prim.Native.Nat.{ℕ}
 use lib.Dec.{eqb}
 use Rattle.std.specs.declared.option.Option.{Option}
 use Rattle.std.specs.declared.option.Option.the-variants.{Some, None}
-use Rattle.model.specs.Tables.{number}
 use Rattle.model.specs.Edges.{nodeOf, signOf, edge, signed}
 use Rattle.model.specs.Cuts.{Cut, joined, keySign, keyList}
 use Rattle.model.specs.Keys.{added}

@@ -1,13 +1,12 @@
 -- A session: its state, its calls, and what each call does and answers, a refused one included.
-use mathlib.Core.Bool.{Bool, true, false, cond}
+use mathlib.Core.Bool.{Bool, false, cond}
 use mathlib.Core.List.{List, [], _∷_}
-use mathlib.Core.Path.{_≡_}
-use Prim.Native.Nat.{ℕ, suc, _+_, _*_, _/_, min, max}
+use Prim.Native.Nat.{ℕ, suc, _/_, min, max}
 use lib.Dec.{eqb, leb, ltb}
 use lib.ListN.{length}
 use Rattle.model.specs.Edges.{nodeOf, signOf, edge, signed}
 use Rattle.model.specs.Cuts.{Cut}
-use Rattle.model.specs.Graphs.{Node, input, gate, Graph, at, inputs, coneOf}
+use Rattle.model.specs.Graphs.{input, gate, Graph, at, inputs, coneOf}
 use Rattle.model.specs.Rankings.{Before, Ranking}
 use Rattle.model.specs.Search.{Decision, folded, shared, merged, made, Limits, decide}
 
@@ -70,16 +69,16 @@ noTally = record { made = 0; folded = 0; shared = 0; merged = 0 }
 -- a session of these limits on these tables, with no input, gate or output yet
 abbrev pub openedWith : Limits → Tables → State
 openedWith m t = record {
-    limits = m;
-    capacity = capacityOf nodeLimit (m .kept) t;
-    outputRows = min outputLimit (t .outputs);
-    source = [];
-    mapped = [];
-    reduced = [];
-    kept = [];
-    outputs = [];
-    tally = noTally;
-  }
+  limits = m;
+  capacity = capacityOf nodeLimit (m .kept) t;
+  outputRows = min outputLimit (t .outputs);
+  source = [];
+  mapped = [];
+  reduced = [];
+  kept = [];
+  outputs = [];
+  tally = noTally;
+}
 
 -- four positions, four leaves, four kept cuts
 abbrev pub positions : ℕ
@@ -194,52 +193,52 @@ keptAfter ks (made cs) = cs ∷ ks
 -- one more source gate with fanins a and b, mapped to x and y, as was decided
 abbrev pub withGate : State → ℕ → ℕ → ℕ → ℕ → Decision → After
 withGate s a b x y d = record {
-    state = record {
-      limits = s .limits;
-      capacity = s .capacity;
-      outputRows = s .outputRows;
-      source = gate a b ∷ s .source;
-      mapped = edgeOf (s .reduced) d ∷ s .mapped;
-      reduced = reducedAfter (s .reduced) x y d;
-      kept = keptAfter (s .kept) d;
-      outputs = s .outputs;
-      tally = raised (outcomeOf d) (s .tally);
-    };
-    answer = swept (outcomeOf d) (edgeOf (s .reduced) d);
-  }
+  state = record {
+    limits = s .limits;
+    capacity = s .capacity;
+    outputRows = s .outputRows;
+    source = gate a b ∷ s .source;
+    mapped = edgeOf (s .reduced) d ∷ s .mapped;
+    reduced = reducedAfter (s .reduced) x y d;
+    kept = keptAfter (s .kept) d;
+    outputs = s .outputs;
+    tally = raised (outcomeOf d) (s .tally);
+  };
+  answer = swept (outcomeOf d) (edgeOf (s .reduced) d);
+}
 
 -- one more input in both graphs, mapped to its plain edge
 abbrev pub withInput : State → After
 withInput s = record {
-    state = record {
-      limits = s .limits;
-      capacity = s .capacity;
-      outputRows = s .outputRows;
-      source = input ∷ s .source;
-      mapped = edge (suc (length (s .reduced))) false ∷ s .mapped;
-      reduced = input ∷ s .reduced;
-      kept = [] ∷ s .kept;
-      outputs = s .outputs;
-      tally = s .tally;
-    };
-    answer = node (suc (length (s .source)));
-  }
+  state = record {
+    limits = s .limits;
+    capacity = s .capacity;
+    outputRows = s .outputRows;
+    source = input ∷ s .source;
+    mapped = edge (suc (length (s .reduced))) false ∷ s .mapped;
+    reduced = input ∷ s .reduced;
+    kept = [] ∷ s .kept;
+    outputs = s .outputs;
+    tally = s .tally;
+  };
+  answer = node (suc (length (s .source)));
+}
 
 abbrev pub withOutput : State → ℕ → After
 withOutput s e = record {
-    state = record {
-      limits = s .limits;
-      capacity = s .capacity;
-      outputRows = s .outputRows;
-      source = s .source;
-      mapped = s .mapped;
-      reduced = s .reduced;
-      kept = s .kept;
-      outputs = e ∷ s .outputs;
-      tally = s .tally;
-    };
-    answer = mapped-edge e;
-  }
+  state = record {
+    limits = s .limits;
+    capacity = s .capacity;
+    outputRows = s .outputRows;
+    source = s .source;
+    mapped = s .mapped;
+    reduced = s .reduced;
+    kept = s .kept;
+    outputs = e ∷ s .outputs;
+    tally = s .tally;
+  };
+  answer = mapped-edge e;
+}
 
 abbrev pub graphOf : Side → State → Graph
 graphOf source-graph s = s .source

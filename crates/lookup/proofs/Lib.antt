@@ -1,0 +1,5 @@
+pub mod Mixing
+pub mod Probed
+pub mod Passed
+pub mod Entering
+pub mod Standing

@@ -1,0 +1,4 @@
+pub mod Hash
+pub mod Pairs
+pub mod Slots
+pub mod Entries
