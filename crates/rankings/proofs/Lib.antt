@@ -1,0 +1,5 @@
+pub mod Totals
+pub mod Ratios
+pub mod Laws
+pub mod Inserts
+pub mod Chosen

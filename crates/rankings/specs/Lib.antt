@@ -1,0 +1,3 @@
+pub mod Facts
+pub mod Candidates
+pub mod Shortlists

@@ -1,0 +1,4 @@
+pub mod Wide
+pub mod Chosen
+pub mod Stepping
+pub mod Tied

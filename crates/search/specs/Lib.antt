@@ -1,0 +1,4 @@
+pub mod Finding
+pub mod Leaves
+pub mod Fanins
+pub mod Decisions

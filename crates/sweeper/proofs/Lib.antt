@@ -1,0 +1,12 @@
+pub mod Newest
+pub mod Reaching
+pub mod Inputting
+pub mod Mapping
+pub mod Storing
+pub mod Growth
+pub mod Facts
+pub mod Gated
+pub mod Looking
+pub mod Sweeping
+pub mod Fresh
+pub mod Telling
