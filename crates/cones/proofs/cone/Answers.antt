@@ -21,7 +21,7 @@ overflow-add-result c = omega (arith, few_nodes c.args.session.now)
 
 pub returns-then-marks-nodes : goal.returns-then-marks-nodes
 returns-then-marks-nodes c = record {
-  runs = few_marks (state_in c.args.session.now) c.args.e.number (length c.args.marks.now) c.args.cap (omega arith) (c.reduced-nodes-nodes.result + 1) (omega arith) (omega arith);
+  runs = few_marks (state_in c.args.session.now) c.args.e.number (length c.args.marks.now) c.args.cap (omega arith) (c.reduced_nodes-nodes.result + 1) (omega arith) (omega arith);
   paths = tt;
   marked = search rules;
 }

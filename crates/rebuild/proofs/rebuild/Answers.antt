@@ -14,5 +14,5 @@ returns-in-err-length g c =
 pub returns : goal.returns
 returns g c =
     let w = c.in-ok-length.ensures in
-    let p = c.read-text.ensures.told in
-    let q = c.in-ok-read-text.was in ?
+    let p = c.read_text.ensures.told in
+    let q = c.in-ok-read_text.was in ?

@@ -10,6 +10,6 @@ returns g c =
     let b = c.args.b.now in
     let laws = lawful-from g.R.Ranking.before g.R.Ranking.mark m.irreflexive m.transitive m.ties m.inputs c.args.by.now in
     record {
-      is = c.ranks-before.ensures;
-      marked = λ e none some. c.ranks-before.ensures ∙ laws.inputs_first e (facts_of a) (facts_of b) (facts_sized a) (facts_sized b) none some;
+      is = c.ranks_before.ensures;
+      marked = λ e none some. c.ranks_before.ensures ∙ laws.inputs_first e (facts_of a) (facts_of b) (facts_sized a) (facts_sized b) none some;
     }

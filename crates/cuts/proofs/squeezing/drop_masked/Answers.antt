@@ -10,12 +10,12 @@ use Rattle.cuts.proofs.squeezing.drop_masked.Goals.{then-not-is-free, else-not-i
 
 pub loop-position-preserved : goal.loop-position-preserved
 loop-position-preserved c =
-    elim c.if-not-is-free.branch [
+    elim c.if-not-is_free.branch [
       | then-not-is-free w ↦
-          dropped_keeps 4 c.args.table c.args.leaves.now c.requires.few c.loop-position-test.true c.loop-position.invariant (sym w.if-not-is-free.ensures) w.moved-word.type-inv w.moved-word.ensures
+          dropped_keeps 4 c.args.table c.args.leaves.now c.requires.few c.loop-position-test.true c.loop-position.invariant (sym w.if-not-is_free.ensures) w.moved-word.type-inv w.moved-word.ensures
           (add-one c.loop-position.position) (w.count-is ∙ add-one c.loop-position.count) w.word-is w.found-is
       | else-not-is-free w ↦
-          dropped_skips 4 c.args.table c.args.leaves.now c.requires.few c.loop-position-test.true c.loop-position.invariant (sym w.if-not-is-free.ensures)
+          dropped_skips 4 c.args.table c.args.leaves.now c.requires.few c.loop-position-test.true c.loop-position.invariant (sym w.if-not-is_free.ensures)
           (add-one c.loop-position.position) w.count-is w.word-is w.found-is
     ]
 

@@ -19,7 +19,7 @@ fill-requires-2 g c =
     let is = ready s.source (length c.args.given.now) (length c.args.source.now) c.in-ok-count.count c.in-ok-count.ensures in
     record {
       given = is.signals ∙ sym (same_inputs s c.args.session.now.reached);
-      room = room-ready s.reduced (length c.args.reduced.now) c.in-ok-check-room.field-0 c.in-ok-check-room.ensures;
+      room = room-ready s.reduced (length c.args.reduced.now) c.in-ok-check_room.field-0 c.in-ok-check_room.ensures;
     }
 
 pub returns-in-err-count : goal.returns-in-err-count
@@ -32,11 +32,11 @@ returns-in-err-count g c =
       agree = tt;
     }
 
-pub returns-in-err-check-room : goal.returns-in-err-check-room
-returns-in-err-check-room g c =
-    let p = err_from_is_err_and c.from-residual-in-err-check-room.result c.from-residual-in-err-check-room.ensures.1 in
+pub returns-in-err-check_room : goal.returns-in-err-check_room
+returns-in-err-check_room g c =
+    let p = err_from_is_err_and c.from-residual-in-err-check_room.result c.from-residual-in-err-check_room.ensures.1 in
     rw p.1 record {
-      answer = both-second (state_in c.args.session.now) (length c.args.given.now) (length c.args.source.now) (length c.args.reduced.now) c.in-ok-count.count c.in-ok-count.ensures p.0 c.in-err-check-room.field-0.0 p.2 c.in-err-check-room.ensures;
+      answer = both-second (state_in c.args.session.now) (length c.args.given.now) (length c.args.source.now) (length c.args.reduced.now) c.in-ok-count.count c.in-ok-count.ensures p.0 c.in-err-check_room.field-0.0 p.2 c.in-err-check_room.ensures;
       source = refl {a = c.args.source.now};
       reduced = refl {a = c.args.reduced.now};
       agree = tt;
@@ -47,7 +47,7 @@ returns g c =
     let signal = g.S.Signal in
     let laws = g.met.S.Signal in
     record {
-      answer = both-filled (state_in c.args.session.now) (length c.args.given.now) (length c.args.source.now) (length c.args.reduced.now) c.in-ok-count.count c.in-ok-count.ensures c.in-ok-check-room.field-0 c.in-ok-check-room.ensures;
+      answer = both-filled (state_in c.args.session.now) (length c.args.given.now) (length c.args.source.now) (length c.args.reduced.now) c.in-ok-count.count c.in-ok-count.ensures c.in-ok-check_room.field-0 c.in-ok-check_room.ensures;
       source = c.fill.ensures;
       reduced = c.fill-2.ensures;
       agree = all-agree signal.lanes signal.lane (kind_of signal.low signal.meet signal.flip)

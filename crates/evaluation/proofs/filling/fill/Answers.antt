@@ -61,22 +61,22 @@ loop-node-preserved-in-Input g c =
     reaching_input (kind g) _ _ _ _ _ _ c.loop-node.invariant c.index-given-rank.result (told-input g here.In-Input) (room g here.In-Some)
     (get_or_read c.args.given.now c.loop-node.rank c.index-given-rank.result (left g here.In-Input) c.index-given-rank.is g.S.Signal.low)
 
-pub edge-at-requires : goal.edge-at-requires
-edge-at-requires g c =
-    let here = goal.at.edge-at-requires g c in
+pub edge_at-requires : goal.edge_at-requires
+edge_at-requires g c =
+    let here = goal.at.edge_at-requires g c in
     omega (arith, (earlier g here.In-Gate).0, room g here.In-Some)
 
-pub edge-at-requires-in-Gate : goal.edge-at-requires-in-Gate
-edge-at-requires-in-Gate g c =
-    let here = goal.at.edge-at-requires-in-Gate g c in
+pub edge_at-requires-in-Gate : goal.edge_at-requires-in-Gate
+edge_at-requires-in-Gate g c =
+    let here = goal.at.edge_at-requires-in-Gate g c in
     omega (arith, (earlier g here.In-Gate).1, room g here.In-Some)
 
 pub loop-node-preserved : goal.loop-node-preserved
 loop-node-preserved g c =
     let here = goal.at.loop-node-preserved g c in
     let low = earlier g here.In-Gate in
-    reaching_gate (kind g) _ _ _ _ _ _ c.loop-node.invariant c.and-signal.result c.edge-at.result c.edge-at-in-Gate.result c.in-Gate.a.number c.in-Gate.b.number
-    (told-gate g here.In-Gate) low.0 low.1 (room g here.In-Some) c.and-signal.ensures c.edge-at.ensures c.edge-at-in-Gate.ensures
+    reaching_gate (kind g) _ _ _ _ _ _ c.loop-node.invariant c.and-signal.result c.edge_at.result c.edge_at-in-Gate.result c.in-Gate.a.number c.in-Gate.b.number
+    (told-gate g here.In-Gate) low.0 low.1 (room g here.In-Some) c.and-signal.ensures c.edge_at.ensures c.edge_at-in-Gate.ensures
 
 pub returns : goal.returns
 returns g c =

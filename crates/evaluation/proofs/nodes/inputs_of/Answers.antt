@@ -14,13 +14,13 @@ pub loop-n-preserved : goal.loop-n-preserved
 loop-n-preserved c =
     let g = graph_in c.args.side c.args.session.now in
     let known = front-inputs g c.loop-n.n (omega arith) in
-    let told : c.is-input.result ≡ is_input (entry input g (c.loop-n.n + 1)) = c.is-input.ensures ∙ ap is_input c.node-of.ensures in
-    let adds : c.if-is-input.count ≡ c.loop-n.count + number c.is-input.result =
-    elim c.if-is-input.branch [
-      | then-is-input w ↦ w.count-is ∙ ap (λ b. c.loop-n.count + number b) (sym w.if-is-input.true)
-      | else-is-input w ↦ w.count-is ∙ sym (add-zero _) ∙ ap (λ b. c.loop-n.count + number b) (sym w.if-is-input.false)
+    let told : c.is_input.result ≡ is_input (entry input g (c.loop-n.n + 1)) = c.is_input.ensures ∙ ap is_input c.node_of.ensures in
+    let adds : c.if-is_input.count ≡ c.loop-n.count + number c.is_input.result =
+    elim c.if-is_input.branch [
+      | then-is-input w ↦ w.count-is ∙ ap (λ b. c.loop-n.count + number b) (sym w.if-is_input.true)
+      | else-is-input w ↦ w.count-is ∙ sym (add-zero _) ∙ ap (λ b. c.loop-n.count + number b) (sym w.if-is_input.false)
     ] in
-    let least = at_most_one c.is-input.result in
+    let least = at_most_one c.is_input.result in
     (adds ∙ ap₂ ◌+◌ c.loop-n.invariant.0 (ap number told) ∙ sym known, omega (arith, adds, c.loop-n.invariant.1))
 
 pub returns : goal.returns

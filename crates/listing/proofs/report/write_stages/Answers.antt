@@ -6,8 +6,8 @@ use Rattle.listing.specs.Sections.{net_text}
 use Rattle.listing.proofs.Whole.{maps_on, tally_on, parted, report-long, first, next, last, has_room}
 use Rattle.listing.proofs.report.write_stages.Goals as goal
 
-pub net-stages-requires : goal.net-stages-requires
-net-stages-requires c = omega (arith, c.requires, report-long (state_in c.args.session.now))
+pub net_stages-requires : goal.net_stages-requires
+net_stages-requires c = omega (arith, c.requires, report-long (state_in c.args.session.now))
 
 pub returns-in-err-tally : goal.returns-in-err-tally
 returns-in-err-tally c = absurd c.in-err-tally.ensures

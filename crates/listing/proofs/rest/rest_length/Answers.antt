@@ -12,4 +12,4 @@ returns-in-Some g c =
     let k = c.args.next in
     let l = line_in c.in-Some.line in
     let all = ap length (rest-one lines (g.S.Section.closing s) k l c.in-Some.ensures) ∙ length-append (text_of (drop k lines)) (written l) in
-    record { value = omega (arith, all, c.lines-length-lines.ensures.value, c.length.ensures.value); bound = omega (arith, c.lines-length-lines.ensures.bound, c.length.ensures.bound) }
+    record { value = omega (arith, all, c.lines_length-lines.ensures.value, c.length.ensures.value); bound = omega (arith, c.lines_length-lines.ensures.bound, c.length.ensures.bound) }

@@ -6,16 +6,16 @@ use Rattle.sweeper.specs.States.{state_in}
 use Rattle.listing.proofs.Onward.{rest-longer, rest-one, written-some, writes_more}
 use Rattle.listing.proofs.rest.write_rest.Goals as goal
 
-pub write-lines-requires : goal.write-lines-requires
-write-lines-requires g c =
+pub write_lines-requires : goal.write_lines-requires
+write_lines-requires g c =
     let s = state_in c.args.session.now in
-    omega (arith, rest-longer (g.S.Section.lines s) (g.S.Section.closing s) c.args.next, c.rest-length-wanted.ensures.value)
+    omega (arith, rest-longer (g.S.Section.lines s) (g.S.Section.closing s) c.args.next, c.rest_length-wanted.ensures.value)
 
 pub returns-in-err-end : goal.returns-in-err-end
 returns-in-err-end g c =
     let s = state_in c.args.session.now in
     let e = c.in-err-end.ensures in
-    absurd (omega (arith, rest-longer (g.S.Section.lines s) (g.S.Section.closing s) c.args.next, c.rest-length-wanted.ensures.value, e.1))
+    absurd (omega (arith, rest-longer (g.S.Section.lines s) (g.S.Section.closing s) c.args.next, c.rest_length-wanted.ensures.value, e.1))
 
 pub returns-in-Some : goal.returns-in-Some
 returns-in-Some g c =
@@ -27,5 +27,5 @@ returns-in-Some g c =
     let l = line_in c.in-Some.line in
     let e = c.in-ok-end.ensures in
     let all = rest-one lines (g.S.Section.closing s) k l c.in-Some.ensures in
-    let w = writes_more at (text_of (drop k lines)) (written l) page _ _ _ _ (written-some l) (omega (arith, ap length all, c.rest-length-wanted.ensures.value)) e.0 e.2 (omega arith) c.write-line.ensures in
-    subst (λ (t : List ℕ). WritesAt at t page c.write-line.result c.write-line.new.page) (sym all) w
+    let w = writes_more at (text_of (drop k lines)) (written l) page _ _ _ _ (written-some l) (omega (arith, ap length all, c.rest_length-wanted.ensures.value)) e.0 e.2 (omega arith) c.write_line.ensures in
+    subst (λ (t : List ℕ). WritesAt at t page c.write_line.result c.write_line.new.page) (sym all) w

@@ -7,5 +7,5 @@ use Rattle.netlist.proofs.reader.read_text.Goals as goal
 pub returns : goal.returns
 returns c =
     let text = c.args.text.now in
-    let is = c.read-lines.ensures in
+    let is = c.read_lines.ensures in
     record { reads = is; told = subst (Told text) (sym is) (text_told text); accepts = λ o h. is ∙ text_read text o h; refuses = λ e h. is ∙ text_stopped text e h }

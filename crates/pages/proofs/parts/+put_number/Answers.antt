@@ -4,8 +4,8 @@ use Rattle.pages.proofs.Over.{width_one, width_more, width_few, over-push}
 use Rattle.pages.proofs.parts.+put_number.Goals as goal
 use Rattle.pages.proofs.parts.+put_number.Goals.{then-n-lt10, else-n-lt10}
 
-pub put-number-at-requires : goal.put-number-at-requires
-put-number-at-requires t c = (search rules, omega (arith, width_more c.args.n (omega arith) (omega arith)))
+pub put_number-at-requires : goal.put_number-at-requires
+put_number-at-requires t c = (search rules, omega (arith, width_more c.args.n (omega arith) (omega arith)))
 
 pub bounds-out-at : goal.bounds-out-at
 bounds-out-at t c = elim c.if-n-lt10.branch [ then-n-lt10 w ↦ omega (arith, width_one c.args.n (omega arith)) | else-n-lt10 w ↦ omega (arith, width_more c.args.n (omega arith) (omega arith)) ]
@@ -25,9 +25,9 @@ returns t c =
           }
       | else-n-lt10 w ↦
           let more = width_more c.args.n (omega arith) (omega arith) in
-          let lt : w.put-number-at.result < length c.args.out.now = omega (arith, more, w.put-number-at.ensures.value) in
+          let lt : w.put_number-at.result < length c.args.out.now = omega (arith, more, w.put_number-at.ensures.value) in
           record {
             value = omega (arith, more);
-            after = simp (w.out-is, w.at-is, w.put-number-at.ensures.after, decimal_step c.args.n w.if-n-lt10.false (omega arith)) (over-push (decimal (c.args.n / 10)) c.args.out.now (48 + c.args.n % 10) _ (sym w.put-number-at.ensures.value) lt);
+            after = simp (w.out-is, w.at-is, w.put_number-at.ensures.after, decimal_step c.args.n w.if-n-lt10.false (omega arith)) (over-push (decimal (c.args.n / 10)) c.args.out.now (48 + c.args.n % 10) _ (sym w.put_number-at.ensures.value) lt);
           }
     ]

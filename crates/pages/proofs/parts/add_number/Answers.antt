@@ -4,6 +4,6 @@ use Rattle.pages.proofs.parts.add_number.Goals as goal
 
 pub returns : goal.returns
 returns c = record {
-  value = omega (arith, c.put-number.ensures.value);
-  after = tail-over c.args.at c.args.page.now _ (decimal c.args.n) c.put-number.ensures.after;
+  value = omega (arith, c.put_number.ensures.value);
+  after = tail-over c.args.at c.args.page.now _ (decimal c.args.n) c.put_number.ensures.after;
 }

@@ -4,6 +4,6 @@ use Rattle.pages.proofs.parts.add_text.Goals as goal
 
 pub returns : goal.returns
 returns c = record {
-  value = omega (arith, c.put-text.ensures.value);
-  after = tail-over c.args.at c.args.page.now _ c.args.text.now c.put-text.ensures.after;
+  value = omega (arith, c.put_text.ensures.value);
+  after = tail-over c.args.at c.args.page.now _ c.args.text.now c.put_text.ensures.after;
 }

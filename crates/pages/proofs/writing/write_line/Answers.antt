@@ -8,5 +8,5 @@ pub returns : goal.returns
 returns c = (
   omega arith,
   omega arith,
-  tail-over c.args.at c.args.page.now _ (written (line_in c.args.line)) c.put-line.ensures.after,
+  tail-over c.args.at c.args.page.now _ (written (line_in c.args.line)) c.put_line.ensures.after,
 )

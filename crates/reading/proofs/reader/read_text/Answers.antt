@@ -22,19 +22,19 @@ runs_on g by s =
     let law = lawful-from g.R.Ranking.before g.R.Ranking.mark m.irreflexive m.transitive m.ties m.inputs by in
     record { lawful = law; continues = λ ls u h. continues (record { before = g.R.Ranking.before by; mark = g.R.Ranking.mark; lawful = law }) ls s u h }
 
-pub returns-in-err-at-line : goal.returns-in-err-at-line
-returns-in-err-at-line g c =
+pub returns-in-err-at_line : goal.returns-in-err-at_line
+returns-in-err-at_line g c =
     let before = g.R.Ranking.before c.args.by.now in
     let here = point_in c.loop-before.reader c.loop-before.session in
-    let there = point_in c.take-line.new.self c.take-line.new.session in
+    let there = point_in c.take_line.new.self c.take_line.new.session in
     let bytes = c.in-Some.field-0.before.now in
-    let e = err_from_is_err_and {Q = λ (y : TextFault). y ≡ c.in-err-at-line.field-0.0} c.from-residual.result c.from-residual.ensures.1 in
-    let f = step-stops before c.loop-before.line here there bytes c.take-line.result c.at-line.result c.in-err-at-line.field-0.0 c.take-line.ensures.steps c.at-line.ensures c.in-err-at-line.was in
+    let e = err_from_is_err_and {Q = λ (y : TextFault). y ≡ c.in-err-at_line.field-0.0} c.from-residual.result c.from-residual.ensures.1 in
+    let f = step-stops before c.loop-before.line here there bytes c.take_line.result c.at_line.result c.in-err-at_line.field-0.0 c.take_line.ensures.steps c.at_line.ensures c.in-err-at_line.was in
     let stop = on_fault before c.loop-before.line here c.loop-before.rest.now bytes _ c.in-Some.ensures f.0 f.1 in
     let said = ap answer_in (e.1 ∙ ap Err e.2) ∙ ap Err f.2 in
     let is = sym c.loop-before.invariant.0 ∙ stop ∙ (λ i. record { answer = sym said i; state = sym f.3 i }) in
     let s = state_in c.args.session.now in
-    let u = state_in c.take-line.new.session in
+    let u = state_in c.take_line.new.session in
     let text = c.args.text.now in
     record {
       reads = is;
@@ -42,7 +42,7 @@ returns-in-err-at-line g c =
       accepts = accepts before s text c.from-residual.result u is;
       refuses = refuses before s text c.from-residual.result u is;
       runs = runs_on g c.args.by.now s;
-      rest = rest-joined (image_in c.args.session.now) (image_in c.loop-before.session) (image_in c.take-line.new.session) c.loop-before.invariant.2 c.take-line.ensures.rest (step-longer before here there bytes c.take-line.result c.take-line.ensures.steps);
+      rest = rest-joined (image_in c.args.session.now) (image_in c.loop-before.session) (image_in c.take_line.new.session) c.loop-before.invariant.2 c.take_line.ensures.rest (step-longer before here there bytes c.take_line.result c.take_line.ensures.steps);
     }
 
 pub loop-before-init : goal.loop-before-init
@@ -58,30 +58,30 @@ pub loop-before-preserved : goal.loop-before-preserved
 loop-before-preserved g c =
     let before = g.R.Ranking.before c.args.by.now in
     let here = point_in c.loop-before.reader c.loop-before.session in
-    let there = point_in c.take-line.new.self c.take-line.new.session in
+    let there = point_in c.take_line.new.self c.take_line.new.session in
     let bytes = c.in-Some.field-0.before.now in
-    let went = step_went before c.loop-before.line here there bytes c.take-line.result c.at-line.result c.in-ok-at-line.field-0 c.take-line.ensures.steps c.at-line.ensures c.in-ok-at-line.was in
+    let went = step_went before c.loop-before.line here there bytes c.take_line.result c.at_line.result c.in-ok-at_line.field-0 c.take_line.ensures.steps c.at_line.ensures c.in-ok-at_line.was in
     let next = on_line before c.loop-before.line here c.loop-before.rest.now bytes _ c.in-Some.ensures there went in
     let long = cut-length before c.loop-before.line here c.loop-before.rest.now bytes _ c.in-Some.ensures in (
       sym next ∙ c.loop-before.invariant.0,
       omega (arith, long, c.loop-before.invariant.1),
-      rest-joined (image_in c.args.session.now) (image_in c.loop-before.session) (image_in c.take-line.new.session) c.loop-before.invariant.2 c.take-line.ensures.rest (step-longer before here there bytes c.take-line.result c.take-line.ensures.steps),
+      rest-joined (image_in c.args.session.now) (image_in c.loop-before.session) (image_in c.take_line.new.session) c.loop-before.invariant.2 c.take_line.ensures.rest (step-longer before here there bytes c.take_line.result c.take_line.ensures.steps),
     )
 
 pub returns : goal.returns
 returns g c =
     let before = g.R.Ranking.before c.args.by.now in
     let here = point_in c.loop-before.reader c.loop-before.session in
-    let said = c.at-line-2.ensures ∙ ap (at_line c.loop-before.line) c.finish.ensures in
+    let said = c.at_line-2.ensures ∙ ap (at_line c.loop-before.line) c.finish.ensures in
     let s = state_in c.args.session.now in
     let u = state_in c.loop-before.session in
     let text = c.args.text.now in
     let is = sym c.loop-before.invariant.0 ∙ on_rest before c.loop-before.line here c.loop-before.rest.now c.in-default.ensures ∙ (λ i. record { answer = sym said i; state = u }) in
     record {
       reads = is;
-      told = told before s text c.at-line-2.result u is;
-      accepts = accepts before s text c.at-line-2.result u is;
-      refuses = refuses before s text c.at-line-2.result u is;
+      told = told before s text c.at_line-2.result u is;
+      accepts = accepts before s text c.at_line-2.result u is;
+      refuses = refuses before s text c.at_line-2.result u is;
       runs = runs_on g c.args.by.now s;
       rest = c.loop-before.invariant.2;
     }

@@ -34,7 +34,7 @@ returns-in-None g c =
     let join = joined positions (min c.args.limit positions) (sign_of x.edge.number) (sign_of y.edge.number) in
     let e = c.in-None.ensures ∙ ap (search_all positions (look_in c.args.keys.now) join (cuts_of x) (cuts_of y)) (none-listed c.new-found.result c.new-found.ensures.empty) in
     record {
-      decision = ap made (c.keep-first.ensures.is ∙ ap (λ l. first_by (by_leaves before leaf) n (map meaning l)) c.items.ensures) ∙ ap (chosen n (by_leaves before leaf)) e;
-      many = c.keep-first.ensures.many;
-      rest = c.keep-first.ensures.rest;
+      decision = ap made (c.keep_first.ensures.is ∙ ap (λ l. first_by (by_leaves before leaf) n (map meaning l)) c.items.ensures) ∙ ap (chosen n (by_leaves before leaf)) e;
+      many = c.keep_first.ensures.many;
+      rest = c.keep_first.ensures.rest;
     }

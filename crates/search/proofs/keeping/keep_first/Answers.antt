@@ -28,8 +28,8 @@ loop-cut-preserved g c =
           ∙ c.loop-cut.invariant.1,
     )
 
-pub write-cuts-requires : goal.write-cuts-requires
-write-cuts-requires g c =
+pub write_cuts-requires : goal.write_cuts-requires
+write_cuts-requires g c =
     let list = c.loop-cut.list in
     let n : length c.candidates.result.now ≡ list.count = ap length c.candidates.ensures ∙ length-take-le list.count list.places.now list.within in
     let m : room c.new-list.result ≡ min c.min-room.result 4 = c.new-list.ensures.room ∙ length-take _ _ in
@@ -45,9 +45,9 @@ returns g c =
     let m : room c.new-list.result ≡ min c.min-room.result 4 = c.new-list.ensures.room ∙ length-take _ _ in
     let fits : room c.new-list.result ≡ min (length c.args.kept.now) most = omega (arith, m, c.min-room.ensures) in
     record {
-      many = omega (arith, n, fits, list.within, c.loop-cut.invariant.0, c.write-cuts.ensures.many);
-      is = ap (map meaning) c.write-cuts.ensures.first ∙ ap (λ l. map meaning (map (λ c. c.item) l)) c.candidates.ensures
+      many = omega (arith, n, fits, list.within, c.loop-cut.invariant.0, c.write_cuts.ensures.many);
+      is = ap (map meaning) c.write_cuts.ensures.first ∙ ap (λ l. map meaning (map (λ c. c.item) l)) c.candidates.ensures
           ∙ come_all before leaf (room c.new-list.result) c.args.cuts.now c.loop-cut.cut-index (listed list) c.loop-cut-test.false (omega (arith, k, list.within, c.loop-cut.invariant.0)) c.loop-cut.invariant.1
           ∙ ap (λ n. first_by (by_leaves before leaf) n (map meaning c.args.cuts.now)) fits;
-      rest = c.write-cuts.ensures.rest;
+      rest = c.write_cuts.ensures.rest;
     }

@@ -10,13 +10,13 @@ loop-i-preserved c =
     let facts = c.loop-i.facts in
     let leaves = c.leaves-leaves.result.now in
     let at = leaf_at c.args.rows.now in
-    let x = c.facts-of-leaf.result in
+    let x = c.facts_of_leaf.result in
     let lt : i < length facts = omega (arith, c.loop-i.invariant.0, c.leaves-leaves.ensures.count, c.args.cut.now.leaves.few) in (
       length-set facts i x ∙ c.loop-i.invariant.0,
       ap (map leaf_of) (take_more_set facts i x lt)
           ∙ map_push leaf_of (take i facts) x
           ∙ ap (λ l. l ++ (leaf_of x ∷ [])) c.loop-i.invariant.1
-          ∙ ap (λ y. map at (take i leaves) ++ (y ∷ [])) c.facts-of-leaf.ensures
+          ∙ ap (λ y. map at (take i leaves) ++ (y ∷ [])) c.facts_of_leaf.ensures
           ∙ sym (map_more at leaves i 0 (omega arith)),
     )
 

@@ -13,10 +13,10 @@ returns-in-Some c =
     let x = c.args.x.now in
     let y = c.args.y.now in
     let limit = c.args.limit in
-    let a = meaning c.cut-at.result in
+    let a = meaning c.cut_at.result in
     let found = listed c.loop-place.found in
     let e = c.in-Some.ensures.is ∙ ap (λ s. row_step keys s y limit a found) c.sign.ensures in
-    sym (along_ends (row_step keys (sign_of x.edge.number) y limit) (cuts_of x) c.loop-place.place a found _ (omega arith) c.cut-at.ensures (sym e)) ∙ c.loop-place.invariant.2
+    sym (along_ends (row_step keys (sign_of x.edge.number) y limit) (cuts_of x) c.loop-place.place a found _ (omega arith) c.cut_at.ensures (sym e)) ∙ c.loop-place.invariant.2
 
 pub loop-place-preserved : goal.loop-place-preserved
 loop-place-preserved c =
@@ -24,12 +24,12 @@ loop-place-preserved c =
     let x = c.args.x.now in
     let y = c.args.y.now in
     let limit = c.args.limit in
-    let a = meaning c.cut-at.result in
+    let a = meaning c.cut_at.result in
     let found = listed c.loop-place.found in
     let e = c.in-None.ensures.is ∙ ap (λ s. row_step keys s y limit a found) c.sign.ensures in (
-      c.search-row.ensures.room ∙ c.loop-place.invariant.0,
-      omega (arith, c.search-row.ensures.next, c.loop-place.invariant.1),
-      sym (along-more (row_step keys (sign_of x.edge.number) y limit) (cuts_of x) c.loop-place.place a found _ (omega arith) c.cut-at.ensures (sym e)) ∙ c.loop-place.invariant.2,
+      c.search_row.ensures.room ∙ c.loop-place.invariant.0,
+      omega (arith, c.search_row.ensures.next, c.loop-place.invariant.1),
+      sym (along-more (row_step keys (sign_of x.edge.number) y limit) (cuts_of x) c.loop-place.place a found _ (omega arith) c.cut_at.ensures (sym e)) ∙ c.loop-place.invariant.2,
     )
 
 pub returns : goal.returns

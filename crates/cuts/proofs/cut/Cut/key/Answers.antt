@@ -12,20 +12,20 @@ invariant-of-cut c =
     let s = eqb (bit_and x.table 1) 1 in (
       x.some,
       (
-        subst (λ w. Loose 4 w x.leaves.count) (sym c.complement-if.ensures) (inverted-loose 4 s x.table x.leaves.count (omega arith) x.loose),
-        (subst (λ w. (i : ℕ) → i < x.leaves.count → masked 4 w i ≡ false) (sym c.complement-if.ensures) (inverted-tight 4 s x.table x.leaves.count (omega arith) (omega arith) x.tight), tt),
+        subst (λ w. Loose 4 w x.leaves.count) (sym c.complement_if.ensures) (inverted-loose 4 s x.table x.leaves.count (omega arith) x.loose),
+        (subst (λ w. (i : ℕ) → i < x.leaves.count → masked 4 w i ≡ false) (sym c.complement_if.ensures) (inverted-tight 4 s x.table x.leaves.count (omega arith) (omega arith) x.tight), tt),
       ),
     )
 
 pub invariant-of-result : goal.invariant-of-result
 invariant-of-result c =
     let t = c.args.self.now.table in
-    (ap (λ w. bit_at w 0) (c.complement-if.ensures ∙ ap (λ s. inverted 4 s t) (odd t)) ∙ inverted_plain 4 t (omega arith), tt)
+    (ap (λ w. bit_at w 0) (c.complement_if.ensures ∙ ap (λ s. inverted 4 s t) (odd t)) ∙ inverted_plain 4 t (omega arith), tt)
 
 pub returns : goal.returns
 returns c =
     let t = c.args.self.now.table in
     record {
-      key = ap {A = ℕ} {B = List ℕ} (λ w. w ∷ (meaning c.args.self.now).leaves) (c.complement-if.ensures ∙ ap (λ s. inverted 4 s t) (odd t));
+      key = ap {A = ℕ} {B = List ℕ} (λ w. w ∷ (meaning c.args.self.now).leaves) (c.complement_if.ensures ∙ ap (λ s. inverted 4 s t) (odd t));
       sign = odd t;
     }

@@ -23,9 +23,9 @@ stretch-requires c =
     let u = united-is 4 (leaves_of c.in-ok-all.all) a b c.in-ok-all.ensures in
     record {
       few = omega arith;
-      rising = (subst Rising (sym c.leaves.ensures.list) c.args.self.now.leaves.rising, subst Rising (sym c.as-slice.ensures.list) c.args.onto.now.rising);
-      within = subst (λ l. Within l c.as-slice.result.now) (sym c.leaves.ensures.list)
-          (subst (Within a) (sym c.as-slice.ensures.list) (unites_within a b (sym u.0 ∙ c.eq.ensures.0 c.if-eq.true)));
+      rising = (subst Rising (sym c.leaves.ensures.list) c.args.self.now.leaves.rising, subst Rising (sym c.as_slice.ensures.list) c.args.onto.now.rising);
+      within = subst (λ l. Within l c.as_slice.result.now) (sym c.leaves.ensures.list)
+          (subst (Within a) (sym c.as_slice.ensures.list) (unites_within a b (sym u.0 ∙ c.eq.ensures.0 c.if-eq.true)));
       loose = subst (Loose 4 c.args.self.now.table) (sym c.leaves.ensures.count) c.args.self.now.loose;
     }
 
@@ -36,7 +36,7 @@ returns-then-eq c =
     let u = united-is 4 (leaves_of c.in-ok-all.all) a b c.in-ok-all.ensures in (
       unites_within a b (sym u.0 ∙ c.eq.ensures.0 c.if-eq.true),
       c.stretch.ensures
-          ∙ ap₂ {A = List ℕ} {B = List ℕ} (λ l m. stretched 4 (record { leaves = l; table = c.args.self.now.table }) m) c.leaves.ensures.list c.as-slice.ensures.list,
+          ∙ ap₂ {A = List ℕ} {B = List ℕ} (λ l m. stretched 4 (record { leaves = l; table = c.args.self.now.table }) m) c.leaves.ensures.list c.as_slice.ensures.list,
     )
 
 pub returns-else-eq : goal.returns-else-eq

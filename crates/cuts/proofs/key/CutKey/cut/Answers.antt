@@ -13,15 +13,15 @@ invariant-of-result c =
     let s = c.args.sign in (
       x.some,
       (
-        subst (λ w. Loose 4 w x.leaves.count) (sym c.complement-if.ensures) (inverted-loose 4 s x.table x.leaves.count (omega arith) x.loose),
-        (subst (λ w. (i : ℕ) → i < x.leaves.count → masked 4 w i ≡ false) (sym c.complement-if.ensures) (inverted-tight 4 s x.table x.leaves.count (omega arith) (omega arith) x.tight), tt),
+        subst (λ w. Loose 4 w x.leaves.count) (sym c.complement_if.ensures) (inverted-loose 4 s x.table x.leaves.count (omega arith) x.loose),
+        (subst (λ w. (i : ℕ) → i < x.leaves.count → masked 4 w i ≡ false) (sym c.complement_if.ensures) (inverted-tight 4 s x.table x.leaves.count (omega arith) (omega arith) x.tight), tt),
       ),
     )
 
 pub returns : goal.returns
 returns c =
     let k = c.args.self.now in
-    let e = ap {A = ℕ} {B = Cut} (λ w. record { leaves = (meaning k.cut).leaves; table = w }) c.complement-if.ensures in
+    let e = ap {A = ℕ} {B = Cut} (λ w. record { leaves = (meaning k.cut).leaves; table = w }) c.complement_if.ensures in
     record {
       cut = e;
       restores = subst (Restores k c.args.sign) (sym e) (restored k c.args.sign (omega arith));

@@ -22,12 +22,12 @@ some c = elim c.if-i-len.branch [ then-i-len w ↦ inl (omega arith) | else-i-le
 pub overflow-cast-nodes : goal.overflow-cast-nodes
 overflow-cast-nodes c =
     let l = least_less c.min-most.result 65536 (leaves_of c.args.self.now) (leaves_of c.args.other.now) c.args.self.now.rising c.args.other.now.rising
-    c.loop-i.i c.loop-i.j c.loop-i.count c.loop-i.nodes c.loop-i.invariant.0 (omega (arith, c.loop-i.invariant.0.few)) c.leaf-at-x.result c.leaf-at-y.result
-    c.leaf-at-x.ensures.front c.leaf-at-y.ensures.front c.leaf-at-x.ensures.less c.leaf-at-y.ensures.less (some c) in
+    c.loop-i.i c.loop-i.j c.loop-i.count c.loop-i.nodes c.loop-i.invariant.0 (omega (arith, c.loop-i.invariant.0.few)) c.leaf_at-x.result c.leaf_at-y.result
+    c.leaf_at-x.ensures.front c.leaf_at-y.ensures.front c.leaf_at-x.ensures.less c.leaf_at-y.ensures.less (some c) in
     omega (arith, c.min.ensures)
 
 pub overflow-add-j : goal.overflow-add-j
-overflow-add-j c = omega (arith, byte-most (leb c.leaf-at-y.result c.leaf-at-x.result), c.loop-i.invariant.0.of_b, length-take c.args.other.now.count c.args.other.now.nodes)
+overflow-add-j c = omega (arith, byte-most (leb c.leaf_at-y.result c.leaf_at-x.result), c.loop-i.invariant.0.of_b, length-take c.args.other.now.count c.args.other.now.nodes)
 
 pub loop-i-smaller : goal.loop-i-smaller
 loop-i-smaller c = omega (arith, c.loop-i.invariant.0.few)
@@ -35,8 +35,8 @@ loop-i-smaller c = omega (arith, c.loop-i.invariant.0.few)
 pub loop-i-preserved : goal.loop-i-preserved
 loop-i-preserved c = (
   merged-step c.min-most.result 65536 (leaves_of c.args.self.now) (leaves_of c.args.other.now) c.args.self.now.rising c.args.other.now.rising
-      c.loop-i.i c.loop-i.j c.loop-i.count c.loop-i.nodes c.loop-i.invariant.0 (omega (arith, c.loop-i.invariant.0.few)) c.leaf-at-x.result c.leaf-at-y.result
-      c.leaf-at-x.ensures.front c.leaf-at-y.ensures.front c.leaf-at-x.ensures.less c.leaf-at-y.ensures.less (some c)
+      c.loop-i.i c.loop-i.j c.loop-i.count c.loop-i.nodes c.loop-i.invariant.0 (omega (arith, c.loop-i.invariant.0.few)) c.leaf_at-x.result c.leaf_at-y.result
+      c.leaf_at-x.ensures.front c.leaf_at-y.ensures.front c.leaf_at-x.ensures.less c.leaf_at-y.ensures.less (some c)
       refl refl refl c.min.ensures refl,
   length-set c.loop-i.nodes c.loop-i.count c.min.result ∙ c.loop-i.invariant.1,
 )

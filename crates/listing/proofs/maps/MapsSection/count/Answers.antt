@@ -8,4 +8,4 @@ use Rattle.listing.proofs.maps.MapsSection.count.Goals as goal
 pub returns : goal.returns
 returns c =
     let s = c.args.session.now in
-    c.source-nodes.ensures ∙ sym (few s).mapped ∙ sym (numbers_count mapped (state_in s).mapped)
+    c.source_nodes.ensures ∙ sym (few s).mapped ∙ sym (numbers_count mapped (state_in s).mapped)

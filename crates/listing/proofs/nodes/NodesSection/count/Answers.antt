@@ -6,4 +6,4 @@ use Rattle.listing.proofs.nodes.NodesSection.count.Goals as goal
 pub returns : goal.returns
 returns c =
     let s = c.args.session.now in
-    c.reduced-nodes.ensures ∙ sym (nodes_count (state_in s).reduced)
+    c.reduced_nodes.ensures ∙ sym (nodes_count (state_in s).reduced)

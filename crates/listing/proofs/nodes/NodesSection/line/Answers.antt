@@ -19,4 +19,4 @@ returns-in-err-row c =
 pub returns : goal.returns
 returns c =
     let s = state_in c.args.session.now in
-    ap Some c.node-line.ensures ∙ nodes_tell s.reduced c.args.k (Some _) (ap node_of c.in-ok-row.ensures ∙ node_entry s (c.args.k + 1))
+    ap Some c.node_line.ensures ∙ nodes_tell s.reduced c.args.k (Some _) (ap node_of c.in-ok-row.ensures ∙ node_entry s (c.args.k + 1))

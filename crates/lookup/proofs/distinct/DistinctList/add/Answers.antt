@@ -11,12 +11,12 @@ returns-then-self g c =
     let e = full_adds (length xs) g.K.Key.meaning c.args.key (take n xs) (omega (arith, length-take-le n xs c.args.self.now.within)) in
     record { room = refl; next = omega arith; adds = sym e.0; rest = refl; told = sym e.1 }
 
-pub returns-then-is-in : goal.returns-then-is-in
-returns-then-is-in g c =
+pub returns-then-is_in : goal.returns-then-is_in
+returns-then-is_in g c =
     let xs = c.args.self.now.places.now in
     let n = c.args.self.now.count in
     let mean = g.K.Key.meaning in
-    let e = old_adds (length xs) mean c.args.key (take n xs) (ap (holds mean (mean c.args.key)) (sym c.items.ensures) ∙ sym c.if-is-in.ensures) in
+    let e = old_adds (length xs) mean c.args.key (take n xs) (ap (holds mean (mean c.args.key)) (sym c.items.ensures) ∙ sym c.if-is_in.ensures) in
     record { room = refl; next = omega arith; adds = sym e.0; rest = refl; told = sym e.1 }
 
 pub returns : goal.returns
@@ -25,5 +25,5 @@ returns g c =
     let n = c.args.self.now.count in
     let mean = g.K.Key.meaning in
     let e = new_adds (length xs) mean c.args.key (take n xs) (omega (arith, length-take-le n xs c.args.self.now.within))
-    (ap (holds mean (mean c.args.key)) (sym c.items.ensures) ∙ sym c.if-is-in.ensures) in
+    (ap (holds mean (mean c.args.key)) (sym c.items.ensures) ∙ sym c.if-is_in.ensures) in
     record { room = length-set xs n c.args.key; next = omega arith; adds = take_more_set xs n c.args.key (omega arith) ∙ sym e.0; rest = drop-set-lt (n + 1) xs n c.args.key (omega arith); told = sym e.1 }

@@ -17,10 +17,10 @@ returns g c =
     record {
       is = c.decide.ensures.decision
           ∙ decides_by (g.R.Ranking.before c.args.by.now) i x y (length c.args.kept.now) (found key_meaning hashed_slot i.keys) (leaf_at (take i.nodes i.reduced))
-          (sign_of x) (sign_of y) (node_of x) (node_of y) c.kept-of.result.now c.kept-of-2.result.now
+          (sign_of x) (sign_of y) (node_of x) (node_of y) c.kept_of.result.now c.kept_of-2.result.now
           c.requires.places c.requires.sound.keys (leaves-are i c.requires.sound c.requires.reached (take i.nodes i.reduced) refl)
           refl refl refl refl
-          c.kept-of.ensures.few (c.kept-of.ensures.are ∙ ap (at [] (kept_of i)) c.node.ensures)
-          c.kept-of-2.ensures.few (c.kept-of-2.ensures.are ∙ ap (at [] (kept_of i)) c.node-2.ensures);
+          c.kept_of.ensures.few (c.kept_of.ensures.are ∙ ap (at [] (kept_of i)) c.node.ensures)
+          c.kept_of-2.ensures.few (c.kept_of-2.ensures.are ∙ ap (at [] (kept_of i)) c.node-2.ensures);
       few = omega (arith, c.decide.ensures.many);
     }

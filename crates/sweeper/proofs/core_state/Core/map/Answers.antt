@@ -7,4 +7,4 @@ pub returns-then-node-self : goal.returns-then-node-self
 returns-then-node-self c = let is = c.node.ensures in map-refused (image c.args.self.now) c.args.e.number (omega arith)
 
 pub returns : goal.returns
-returns c = let is = c.node.ensures in map_steps (image c.args.self.now) c.args.e.number _ (omega arith) c.map-edge.ensures
+returns c = let is = c.node.ensures in map_steps (image c.args.self.now) c.args.e.number _ (omega arith) c.map_edge.ensures

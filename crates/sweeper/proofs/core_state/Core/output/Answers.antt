@@ -16,10 +16,10 @@ pub returns : goal.returns
 returns c =
     let is = c.node.ensures in
     let i = image c.args.self.now in
-    let m = c.map-edge-mapped.result in
+    let m = c.map_edge-mapped.result in
     record {
       kept = output_sound i c.requires.sound m c.if-self.false;
       rest = record { source = refl; reduced = refl; cuts = refl; outputs = drop-set-lt (i.outs + 1) i.outputs i.outs m (omega arith) };
       refused = tt;
-      steps = output_steps i c.args.e.number m c.map-edge-mapped.ensures (omega arith) c.if-self.false;
+      steps = output_steps i c.args.e.number m c.map_edge-mapped.ensures (omega arith) c.if-self.false;
     }

@@ -6,4 +6,4 @@ use Rattle.sweeper.proofs.core_state.Core.store_cuts.Goals as goal
 pub returns : goal.returns
 returns c =
     let i = image c.args.self.now in
-    ap (with_cuts i) (put-stored i.cuts c.copy-from-slice.new.self c.args.kept.now _ _ c.copy-from-slice.ensures.after (omega arith))
+    ap (with_cuts i) (put-stored i.cuts c.copy_from_slice.new.self c.args.kept.now _ _ c.copy_from_slice.ensures.after (omega arith))
