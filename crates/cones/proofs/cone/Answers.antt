@@ -16,8 +16,8 @@ returns-then-node-nodes c = record {
   marked = search rules;
 }
 
-pub overflow-add-result : goal.overflow-add-result
-overflow-add-result c = omega (arith, few_nodes c.args.session.now)
+pub overflow_add-result : goal.overflow_add-result
+overflow_add-result c = omega (arith, few_nodes c.args.session.now)
 
 pub returns-then-marks-nodes : goal.returns-then-marks-nodes
 returns-then-marks-nodes c = record {
@@ -26,13 +26,13 @@ returns-then-marks-nodes c = record {
   marked = search rules;
 }
 
-pub returns-in-err-gates : goal.returns-in-err-gates
-returns-in-err-gates c =
+pub returns-in_err-gates : goal.returns-in_err-gates
+returns-in_err-gates c =
     let s = state_in c.args.session.now in
     let e = c.args.e.number in
     let exit = err_from_is_err_and c.from-residual.result c.from-residual.ensures.1 in
     let is : c.from-residual.result ≡ capped (cone_of s.reduced e) c.args.cap =
-    exit.1 ∙ ap Err exit.2 ∙ c.in-err-gates.ensures ∙ ap (λ n. capped (gates_that (rests_on s.reduced n) s.reduced) c.args.cap) c.node-node.ensures in
+    exit.1 ∙ ap Err exit.2 ∙ c.in_err-gates.ensures ∙ ap (λ n. capped (gates_that (rests_on s.reduced n) s.reduced) c.args.cap) c.node-node.ensures in
     record {
       runs = counts s e (length c.args.marks.now) c.args.cap (omega arith) (omega arith) c.from-residual.result is;
       paths = cone-told s.reduced e c.args.cap (cone_of_lem s.reduced (ordered s c.args.session.now.reached) (node_of e)) c.from-residual.result is;
@@ -43,10 +43,10 @@ pub returns : goal.returns
 returns c =
     let s = state_in c.args.session.now in
     let e = c.args.e.number in
-    let is : Ok c.in-ok-gates.gates ≡ capped (cone_of s.reduced e) c.args.cap =
-    c.in-ok-gates.ensures ∙ ap (λ n. capped (gates_that (rests_on s.reduced n) s.reduced) c.args.cap) c.node-node.ensures in
+    let is : Ok c.in_ok-gates.gates ≡ capped (cone_of s.reduced e) c.args.cap =
+    c.in_ok-gates.ensures ∙ ap (λ n. capped (gates_that (rests_on s.reduced n) s.reduced) c.args.cap) c.node-node.ensures in
     record {
-      runs = counts s e (length c.args.marks.now) c.args.cap (omega arith) (omega arith) (Ok c.in-ok-gates.gates) is;
-      paths = cone-told s.reduced e c.args.cap (cone_of_lem s.reduced (ordered s c.args.session.now.reached) (node_of e)) (Ok c.in-ok-gates.gates) is;
+      runs = counts s e (length c.args.marks.now) c.args.cap (omega arith) (omega arith) (Ok c.in_ok-gates.gates) is;
+      paths = cone-told s.reduced e c.args.cap (cone_of_lem s.reduced (ordered s c.args.session.now.reached) (node_of e)) (Ok c.in_ok-gates.gates) is;
       marked = record { clear = search rules; number = search rules };
     }

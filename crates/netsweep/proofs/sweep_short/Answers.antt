@@ -10,28 +10,28 @@ use Rattle.reading.proofs.Answering.{told-ok, told-err}
 use Rattle.netsweep.proofs.Putting.{opened-run, wrote, no_page, swept}
 use Rattle.netsweep.proofs.sweep_short.Goals as goal
 
-pub returns-in-err-read_text : goal.returns-in-err-read_text
-returns-in-err-read_text c =
+pub returns-in_err-read_text : goal.returns-in_err-read_text
+returns-in_err-read_text c =
     let p = err_from_is_err_and c.from-residual.result c.from-residual.ensures.1 in
     let s = state_in c.open-session.result in
     let u = state_in c.read_text.new.session in
-    let e = c.in-err-read_text.field-0.0 in
-    let r = told-err by_height s c.args.text.now u c.read_text.result e c.in-err-read_text.was c.read_text.ensures.told in
+    let e = c.in_err-read_text.field-0.0 in
+    let r = told-err by_height s c.args.text.now u c.read_text.result e c.in_err-read_text.was c.read_text.ensures.told in
     rw p.1 (stopped (stop_in e) u (subst (λ x. Refused by_height x c.args.text.now (stop_in e) u) (opened-run c.open-session.ensures.run) r) p.2, refl)
 
-pub returns-in-err-write_report : goal.returns-in-err-write_report
-returns-in-err-write_report c =
-    let p = err_from_is_err_and c.from-residual-in-err-write_report.result c.from-residual-in-err-write_report.ensures.1 in
+pub returns-in_err-write_report : goal.returns-in_err-write_report
+returns-in_err-write_report c =
+    let p = err_from_is_err_and c.from-residual-in_err-write_report.result c.from-residual-in_err-write_report.ensures.1 in
     let s = state_in c.open-session.result in
     let u = state_in c.read_text.new.session in
-    let f = told-ok by_height s c.args.text.now u c.read_text.result c.in-ok-read_text.field-0 c.in-ok-read_text.was c.read_text.ensures.told in
-    let w = no_page (report_text u) c.args.page.now c.write_report.new.page c.write_report.result c.in-err-write_report.field-0.0 c.in-err-write_report.was c.write_report.ensures in
+    let f = told-ok by_height s c.args.text.now u c.read_text.result c.in_ok-read_text.field-0 c.in_ok-read_text.was c.read_text.ensures.told in
+    let w = no_page (report_text u) c.args.page.now c.write_report.new.page c.write_report.result c.in_err-write_report.field-0.0 c.in_err-write_report.was c.write_report.ensures in
     rw p.1 (too_wide u (swept s c.args.text.now u c.open-session.ensures.run f c.read_text.ensures.runs) w.0 p.2, w.1)
 
 pub returns : goal.returns
 returns c =
     let s = state_in c.open-session.result in
     let u = state_in c.read_text.new.session in
-    let f = told-ok by_height s c.args.text.now u c.read_text.result c.in-ok-read_text.field-0 c.in-ok-read_text.was c.read_text.ensures.told in
-    let w = wrote (report_text u) c.args.page.now c.write_report.new.page c.write_report.result c.in-ok-write_report.field-0 c.in-ok-write_report.was c.write_report.ensures in
+    let f = told-ok by_height s c.args.text.now u c.read_text.result c.in_ok-read_text.field-0 c.in_ok-read_text.was c.read_text.ensures.told in
+    let w = wrote (report_text u) c.args.page.now c.write_report.new.page c.write_report.result c.in_ok-write_report.field-0 c.in_ok-write_report.was c.write_report.ensures in
     record { state = u; swept = swept s c.args.text.now u c.open-session.ensures.run f c.read_text.ensures.runs; count = w.0; fits = w.1; page = w.2 }

@@ -6,13 +6,13 @@ use Rattle.sweeper.specs.States.{state_in}
 use Rattle.rebuild.proofs.Carried.{takes, front}
 use Rattle.rebuild.proofs.rebuild.Goals as goal
 
-pub returns-in-err-length : goal.returns-in-err-length
-returns-in-err-length g c =
-    let w = c.in-err-length.ensures in
+pub returns-in_err-length : goal.returns-in_err-length
+returns-in_err-length g c =
+    let w = c.in_err-length.ensures in
     let p = c.from-residual.ensures in ?
 
 pub returns : goal.returns
 returns g c =
-    let w = c.in-ok-length.ensures in
+    let w = c.in_ok-length.ensures in
     let p = c.read_text.ensures.told in
-    let q = c.in-ok-read_text.was in ?
+    let q = c.in_ok-read_text.was in ?

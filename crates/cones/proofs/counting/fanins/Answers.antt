@@ -4,5 +4,5 @@ use Rattle.cones.specs.Cones.{fanin_nodes}
 use Rattle.cones.proofs.Seeing.{unseen}
 use Rattle.cones.proofs.counting.fanins.Goals as goal
 
-pub returns-in-err-x : goal.returns-in-err-x
-returns-in-err-x c = c.from-residual.ensures ∙ sym (ap fanin_nodes (unseen (state_in c.args.session.now) c.args.node c.in-err-x.ensures))
+pub returns-in_err-x : goal.returns-in_err-x
+returns-in_err-x c = c.from-residual.ensures ∙ sym (ap fanin_nodes (unseen (state_in c.args.session.now) c.args.node c.in_err-x.ensures))

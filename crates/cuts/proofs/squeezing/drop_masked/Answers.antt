@@ -12,7 +12,7 @@ pub loop-position-preserved : goal.loop-position-preserved
 loop-position-preserved c =
     elim c.if-not-is_free.branch [
       | then-not-is-free w ↦
-          dropped_keeps 4 c.args.table c.args.leaves.now c.requires.few c.loop-position-test.true c.loop-position.invariant (sym w.if-not-is_free.ensures) w.moved-word.type-inv w.moved-word.ensures
+          dropped_keeps 4 c.args.table c.args.leaves.now c.requires.few c.loop-position-test.true c.loop-position.invariant (sym w.if-not-is_free.ensures) w.moved-word.type_inv w.moved-word.ensures
           (add-one c.loop-position.position) (w.count-is ∙ add-one c.loop-position.count) w.word-is w.found-is
       | else-not-is-free w ↦
           dropped_skips 4 c.args.table c.args.leaves.now c.requires.few c.loop-position-test.true c.loop-position.invariant (sym w.if-not-is_free.ensures)
@@ -31,14 +31,14 @@ returns-then-count-eq0 c =
     ∙ ap {A = ℕ} {B = Cut} (λ n. record { leaves = take n c.loop-position.found; table = word }) (sym none)
     ∙ r.cut
 
-pub invariant-of-leaves : goal.invariant-of-leaves
-invariant-of-leaves c =
+pub invariant_of-leaves : goal.invariant_of-leaves
+invariant_of-leaves c =
     let r = dropped_all 4 c.args.table c.args.leaves.now c.loop-position.position c.loop-position.count c.loop-position.word c.loop-position.found
     c.requires.few c.requires.rising c.requires.loose (omega arith) c.loop-position.invariant in
     (omega (arith, c.loop-position.invariant.room), (r.few, (r.rising, (r.zeros, tt))))
 
-pub invariant-of-result : goal.invariant-of-result
-invariant-of-result c =
+pub invariant_of-result : goal.invariant_of-result
+invariant_of-result c =
     let r = dropped_all 4 c.args.table c.args.leaves.now c.loop-position.position c.loop-position.count c.loop-position.word c.loop-position.found
     c.requires.few c.requires.rising c.requires.loose (omega arith) c.loop-position.invariant in
     (omega arith, (r.loose, (r.tight, tt)))

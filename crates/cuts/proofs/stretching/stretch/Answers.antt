@@ -11,7 +11,7 @@ loop-left-init c = partly_start 4 c.args.table c.args.old.now c.args.new.now c.r
 pub loop-left-preserved-then-old-left : goal.loop-left-preserved-then-old-left
 loop-left-preserved-then-old-left c =
     partly_move 4 c.args.table c.args.old.now c.args.new.now c.requires.rising.0 c.requires.rising.1 c.requires.within (loose-rests 4 c.args.table (length c.args.old.now) c.requires.loose)
-    c.loop-left.left c.loop-left.place c.loop-left.word c.moved-word.result (omega arith) (omega arith) c.loop-left.invariant c.if-old-left.true c.moved-word.type-inv c.moved-word.ensures
+    c.loop-left.left c.loop-left.place c.loop-left.word c.moved-word.result (omega arith) (omega arith) c.loop-left.invariant c.if-old-left.true c.moved-word.type_inv c.moved-word.ensures
 
 pub loop-left-preserved : goal.loop-left-preserved
 loop-left-preserved c =

@@ -4,8 +4,8 @@ use Rattle.model.specs.Tables.{val}
 use Rattle.cuts.proofs.Masks.{P, step_is, step_fits}
 use Rattle.model.proofs.Positions.{high_choice}
 
-pub overflow-shr-table : goal.overflow-shr-table
-overflow-shr-table c = omega (arith, step_is c.args.position c.requires, step_fits c.args.position c.requires)
+pub overflow_shr-table : goal.overflow_shr-table
+overflow_shr-table c = omega (arith, step_is c.args.position c.requires, step_fits c.args.position c.requires)
 
 pub returns : goal.returns
 returns c v =

@@ -4,8 +4,8 @@ use lib.Bits.{bit_and, bit_xor}
 use Rattle.cuts.proofs.Masks.{masks, P, mask_of, mask_small, step_is, step_fits}
 use Rattle.model.proofs.MaskTest.{masked_word}
 
-pub overflow-shr-result : goal.overflow-shr-result
-overflow-shr-result c = omega (arith, step_is c.args.position c.requires, step_fits c.args.position c.requires)
+pub overflow_shr-result : goal.overflow_shr-result
+overflow_shr-result c = omega (arith, step_is c.args.position c.requires, step_fits c.args.position c.requires)
 
 pub returns : goal.returns
 returns c =

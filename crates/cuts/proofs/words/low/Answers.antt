@@ -4,8 +4,8 @@ use Rattle.model.specs.Tables.{val}
 use Rattle.cuts.proofs.Masks.{P, step_is, step_fits}
 use Rattle.model.proofs.Positions.{low-choice}
 
-pub overflow-shl-table : goal.overflow-shl-table
-overflow-shl-table c = omega (arith, step_is c.args.position c.requires, step_fits c.args.position c.requires)
+pub overflow_shl-table : goal.overflow_shl-table
+overflow_shl-table c = omega (arith, step_is c.args.position c.requires, step_fits c.args.position c.requires)
 
 pub returns : goal.returns
 returns c v =

@@ -9,34 +9,34 @@ use Rattle.evaluation.proofs.both.walk_both.Goals as goal
 
 pub fill-requires : goal.fill-requires
 fill-requires g c =
-    let is = ready (state_in c.args.session.now).source (length c.args.given.now) (length c.args.source.now) c.in-ok-count.count c.in-ok-count.ensures in
+    let is = ready (state_in c.args.session.now).source (length c.args.given.now) (length c.args.source.now) c.in_ok-count.count c.in_ok-count.ensures in
     record { given = is.signals; room = is.room }
 
 -- the inputs of both graphs are as many
 pub fill-requires-2 : goal.fill-requires-2
 fill-requires-2 g c =
     let s = state_in c.args.session.now in
-    let is = ready s.source (length c.args.given.now) (length c.args.source.now) c.in-ok-count.count c.in-ok-count.ensures in
+    let is = ready s.source (length c.args.given.now) (length c.args.source.now) c.in_ok-count.count c.in_ok-count.ensures in
     record {
       given = is.signals ∙ sym (same_inputs s c.args.session.now.reached);
-      room = room-ready s.reduced (length c.args.reduced.now) c.in-ok-check_room.field-0 c.in-ok-check_room.ensures;
+      room = room-ready s.reduced (length c.args.reduced.now) c.in_ok-check_room.field-0 c.in_ok-check_room.ensures;
     }
 
-pub returns-in-err-count : goal.returns-in-err-count
-returns-in-err-count g c =
+pub returns-in_err-count : goal.returns-in_err-count
+returns-in_err-count g c =
     let p = err_from_is_err_and c.from-residual.result c.from-residual.ensures.1 in
     rw p.1 record {
-      answer = both_first (state_in c.args.session.now) (length c.args.given.now) (length c.args.source.now) (length c.args.reduced.now) p.0 c.in-err-count.field-0.0 p.2 c.in-err-count.ensures;
+      answer = both_first (state_in c.args.session.now) (length c.args.given.now) (length c.args.source.now) (length c.args.reduced.now) p.0 c.in_err-count.field-0.0 p.2 c.in_err-count.ensures;
       source = refl {a = c.args.source.now};
       reduced = refl {a = c.args.reduced.now};
       agree = tt;
     }
 
-pub returns-in-err-check_room : goal.returns-in-err-check_room
-returns-in-err-check_room g c =
-    let p = err_from_is_err_and c.from-residual-in-err-check_room.result c.from-residual-in-err-check_room.ensures.1 in
+pub returns-in_err-check_room : goal.returns-in_err-check_room
+returns-in_err-check_room g c =
+    let p = err_from_is_err_and c.from-residual-in_err-check_room.result c.from-residual-in_err-check_room.ensures.1 in
     rw p.1 record {
-      answer = both-second (state_in c.args.session.now) (length c.args.given.now) (length c.args.source.now) (length c.args.reduced.now) c.in-ok-count.count c.in-ok-count.ensures p.0 c.in-err-check_room.field-0.0 p.2 c.in-err-check_room.ensures;
+      answer = both-second (state_in c.args.session.now) (length c.args.given.now) (length c.args.source.now) (length c.args.reduced.now) c.in_ok-count.count c.in_ok-count.ensures p.0 c.in_err-check_room.field-0.0 p.2 c.in_err-check_room.ensures;
       source = refl {a = c.args.source.now};
       reduced = refl {a = c.args.reduced.now};
       agree = tt;
@@ -47,7 +47,7 @@ returns g c =
     let signal = g.S.Signal in
     let laws = g.met.S.Signal in
     record {
-      answer = both-filled (state_in c.args.session.now) (length c.args.given.now) (length c.args.source.now) (length c.args.reduced.now) c.in-ok-count.count c.in-ok-count.ensures c.in-ok-check_room.field-0 c.in-ok-check_room.ensures;
+      answer = both-filled (state_in c.args.session.now) (length c.args.given.now) (length c.args.source.now) (length c.args.reduced.now) c.in_ok-count.count c.in_ok-count.ensures c.in_ok-check_room.field-0 c.in_ok-check_room.ensures;
       source = c.fill.ensures;
       reduced = c.fill-2.ensures;
       agree = all-agree signal.lanes signal.lane (kind_of signal.low signal.meet signal.flip)

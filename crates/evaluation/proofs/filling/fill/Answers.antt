@@ -46,14 +46,14 @@ loop-node-init g c =
     reaching_none (kind g) c.args.given.now (graph_in c.args.side c.args.session.now) c.args.places.now c.falsity.result
     (omega (arith, c.requires.room)) c.falsity.ensures
 
-pub offset-bounds-given-rank : goal.offset-bounds-given-rank
-offset-bounds-given-rank g c = omega (arith, left g c)
+pub offset_bounds-given-rank : goal.offset_bounds-given-rank
+offset_bounds-given-rank g c = omega (arith, left g c)
 
 pub bounds-given-rank : goal.bounds-given-rank
 bounds-given-rank g c = left g c
 
-pub overflow-add-rank : goal.overflow-add-rank
-overflow-add-rank g c = let few = left g (goal.at.overflow-add-rank g c).In-Input in omega arith
+pub overflow_add-rank : goal.overflow_add-rank
+overflow_add-rank g c = let few = left g (goal.at.overflow_add-rank g c).In-Input in omega arith
 
 pub loop-node-preserved-in-Input : goal.loop-node-preserved-in-Input
 loop-node-preserved-in-Input g c =
@@ -81,7 +81,7 @@ loop-node-preserved g c =
 pub returns : goal.returns
 returns g c =
     let graph = graph_in c.args.side c.args.session.now in
-    let ends = entry-none graph c.loop-node.n c.in-default.ensures in
+    let ends = entry-none graph c.loop-node.n c.in_default.ensures in
     let long = length-set c.args.places.now 0 c.falsity.result in
     reaching_all (kind g) g.S.Signal.formed g.met.S.Signal.low_formed g.met.S.Signal.meet_formed c.args.given.now graph
     c.args.places.now c.loop-node.places c.falsity.result c.loop-node.n c.loop-node.rank c.loop-node.invariant ends c.requires.room

@@ -18,5 +18,5 @@ returns-in-101 c = simp take_rest (grind (arith, nat_tests))
 pub returns-in-105 : goal.returns-in-105
 returns-in-105 c = simp take_rest (grind (arith, nat_tests))
 
-pub returns-in-default : goal.returns-in-default
-returns-in-default c = grind (arith, nat_tests)
+pub returns-in_default : goal.returns-in_default
+returns-in_default c = grind (arith, nat_tests)

@@ -6,39 +6,39 @@ use Rattle.listing.specs.Sections.{net_text}
 use Rattle.listing.proofs.Whole.{outs_on, nodes_on, begun, net-long, first, next, has_room, all_up}
 use Rattle.listing.proofs.report.net_stages.Goals as goal
 
-pub returns-in-err-nodes : goal.returns-in-err-nodes
-returns-in-err-nodes c =
-    let e = c.in-err-nodes.ensures in
+pub returns-in_err-nodes : goal.returns-in_err-nodes
+returns-in_err-nodes c =
+    let e = c.in_err-nodes.ensures in
     absurd (omega (arith, e.1, c.requires, net-long (state_in c.args.session.now)))
 
-pub returns-in-err-outs : goal.returns-in-err-outs
-returns-in-err-outs c =
+pub returns-in_err-outs : goal.returns-in_err-outs
+returns-in_err-outs c =
     let s = state_in c.args.session.now in
     let page = c.args.page.now in
     let whole = net_text s in
-    let b = c.in-ok-nodes.ensures in
-    let nodes = first whole page c.requires (written (net 1)) (nodes_on s) c.in-ok-nodes.nodes _ (begun s) b.0 b.2 in
-    let e = c.in-err-outs.ensures in
-    absurd (has_room whole page c.requires (node_lines s.reduced) [] (outs_on s) c.in-ok-nodes.nodes _ nodes (omega arith) e.1)
+    let b = c.in_ok-nodes.ensures in
+    let nodes = first whole page c.requires (written (net 1)) (nodes_on s) c.in_ok-nodes.nodes _ (begun s) b.0 b.2 in
+    let e = c.in_err-outs.ensures in
+    absurd (has_room whole page c.requires (node_lines s.reduced) [] (outs_on s) c.in_ok-nodes.nodes _ nodes (omega arith) e.1)
 
-pub returns-in-err-tally : goal.returns-in-err-tally
-returns-in-err-tally c =
+pub returns-in_err-tally : goal.returns-in_err-tally
+returns-in_err-tally c =
     let s = state_in c.args.session.now in
     let page = c.args.page.now in
     let whole = net_text s in
-    let b = c.in-ok-nodes.ensures in
-    let nodes = first whole page c.requires (written (net 1)) (nodes_on s) c.in-ok-nodes.nodes _ (begun s) b.0 b.2 in
-    let outs = next whole page c.requires (node_lines s.reduced) [] (outs_on s) c.in-ok-nodes.nodes _ nodes c.in-ok-outs.outs _ c.in-ok-outs.ensures in
-    let e = c.in-err-tally.ensures in
-    absurd (has_room whole page c.requires (lines_of out s.outputs) (end (length s.reduced) ∷ []) [] c.in-ok-outs.outs _ outs (omega arith) e.1)
+    let b = c.in_ok-nodes.ensures in
+    let nodes = first whole page c.requires (written (net 1)) (nodes_on s) c.in_ok-nodes.nodes _ (begun s) b.0 b.2 in
+    let outs = next whole page c.requires (node_lines s.reduced) [] (outs_on s) c.in_ok-nodes.nodes _ nodes c.in_ok-outs.outs _ c.in_ok-outs.ensures in
+    let e = c.in_err-tally.ensures in
+    absurd (has_room whole page c.requires (lines_of out s.outputs) (end (length s.reduced) ∷ []) [] c.in_ok-outs.outs _ outs (omega arith) e.1)
 
 pub returns : goal.returns
 returns c =
     let s = state_in c.args.session.now in
     let page = c.args.page.now in
     let whole = net_text s in
-    let b = c.in-ok-nodes.ensures in
-    let nodes = first whole page c.requires (written (net 1)) (nodes_on s) c.in-ok-nodes.nodes _ (begun s) b.0 b.2 in
-    let outs = next whole page c.requires (node_lines s.reduced) [] (outs_on s) c.in-ok-nodes.nodes _ nodes c.in-ok-outs.outs _ c.in-ok-outs.ensures in
-    let tally = next whole page c.requires (lines_of out s.outputs) (end (length s.reduced) ∷ []) [] c.in-ok-outs.outs _ outs c.in-ok-tally.tally _ c.in-ok-tally.ensures in
-    all_up whole page c.requires c.in-ok-tally.tally _ tally
+    let b = c.in_ok-nodes.ensures in
+    let nodes = first whole page c.requires (written (net 1)) (nodes_on s) c.in_ok-nodes.nodes _ (begun s) b.0 b.2 in
+    let outs = next whole page c.requires (node_lines s.reduced) [] (outs_on s) c.in_ok-nodes.nodes _ nodes c.in_ok-outs.outs _ c.in_ok-outs.ensures in
+    let tally = next whole page c.requires (lines_of out s.outputs) (end (length s.reduced) ∷ []) [] c.in_ok-outs.outs _ outs c.in_ok-tally.tally _ c.in_ok-tally.ensures in
+    all_up whole page c.requires c.in_ok-tally.tally _ tally

@@ -16,20 +16,20 @@ loop-k-preserved g c =
     elim c.match-line.branch [
       | in-Some+in-ok-end w ↦
           let l = line_in w.in-Some.line in
-          let e = w.in-ok-end.ensures in
+          let e = w.in_ok-end.ensures in
           let rest = text_of (drop (k + 1) lines) in
           let more = text_more lines k l w.in-Some.ensures in
           one_more _ _ (written l) rest _ _ _ _ c.loop-k.invariant more c.requires (within _ _ (written l) rest _ _ _ _ c.loop-k.invariant more c.requires (written-some l)) _ _ (w.end-is ∙ e.0) (w.page-is ∙ e.2)
-      | in-default w ↦ absurd (omega (arith, none-past lines k w.in-default.ensures))
+      | in-default w ↦ absurd (omega (arith, none-past lines k w.in_default.ensures))
     ]
 
-pub returns-in-err-end : goal.returns-in-err-end
-returns-in-err-end g c =
+pub returns-in_err-end : goal.returns-in_err-end
+returns-in_err-end g c =
     let lines = g.S.Section.lines (state_in c.args.session.now) in
     let k = c.loop-k.k in
     let l = line_in c.in-Some.line in
     let room = room-left _ _ (written l) (text_of (drop (k + 1) lines)) _ _ _ _ c.loop-k.invariant (text_more lines k l c.in-Some.ensures) c.requires in
-    let e = c.in-err-end.ensures in
+    let e = c.in_err-end.ensures in
     absurd (omega (arith, room, e.1, c.loop-k.auto.page))
 
 pub returns : goal.returns

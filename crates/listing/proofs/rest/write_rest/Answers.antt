@@ -11,10 +11,10 @@ write_lines-requires g c =
     let s = state_in c.args.session.now in
     omega (arith, rest-longer (g.S.Section.lines s) (g.S.Section.closing s) c.args.next, c.rest_length-wanted.ensures.value)
 
-pub returns-in-err-end : goal.returns-in-err-end
-returns-in-err-end g c =
+pub returns-in_err-end : goal.returns-in_err-end
+returns-in_err-end g c =
     let s = state_in c.args.session.now in
-    let e = c.in-err-end.ensures in
+    let e = c.in_err-end.ensures in
     absurd (omega (arith, rest-longer (g.S.Section.lines s) (g.S.Section.closing s) c.args.next, c.rest_length-wanted.ensures.value, e.1))
 
 pub returns-in-Some : goal.returns-in-Some
@@ -25,7 +25,7 @@ returns-in-Some g c =
     let at = c.args.at in
     let page = c.args.page.now in
     let l = line_in c.in-Some.line in
-    let e = c.in-ok-end.ensures in
+    let e = c.in_ok-end.ensures in
     let all = rest-one lines (g.S.Section.closing s) k l c.in-Some.ensures in
     let w = writes_more at (text_of (drop k lines)) (written l) page _ _ _ _ (written-some l) (omega (arith, ap length all, c.rest_length-wanted.ensures.value)) e.0 e.2 (omega arith) c.write_line.ensures in
     subst (λ (t : List ℕ). WritesAt at t page c.write_line.result c.write_line.new.page) (sym all) w

@@ -4,10 +4,10 @@ use Rattle.netlist.specs.Reading.{at_line}
 use Rattle.netlist.proofs.Onward.{cut-length, on_line, on_fault, on_rest, step-fault, step_went, step_counts}
 use Rattle.netlist.proofs.reader.read_lines.Goals as goal
 
-pub returns-in-err-at_line : goal.returns-in-err-at_line
-returns-in-err-at_line c =
+pub returns-in_err-at_line : goal.returns-in_err-at_line
+returns-in_err-at_line c =
     let p = err_from_is_err_and c.from-residual.result c.from-residual.ensures.1 in
-    let f = step-fault c.loop-before.line c.loop-before.reader c.in-Some.field-0.before.now c.take_line.result c.take_line.new.self c.in-err-at_line.field-0.0 c.take_line.ensures (sym c.at_line.ensures ∙ c.in-err-at_line.was) in
+    let f = step-fault c.loop-before.line c.loop-before.reader c.in-Some.field-0.before.now c.take_line.result c.take_line.new.self c.in_err-at_line.field-0.0 c.take_line.ensures (sym c.at_line.ensures ∙ c.in_err-at_line.was) in
     let stop = on_fault c.loop-before.line c.loop-before.reader c.loop-before.rest.now _ _ c.in-Some.ensures f.0 f.1 in
     p.1 ∙ ap (λ e. Err e) (p.2 ∙ sym f.2) ∙ sym stop ∙ c.loop-before.invariant.0
 
@@ -16,7 +16,7 @@ loop-before-smaller c = omega (arith, cut-length c.loop-before.line c.loop-befor
 
 pub loop-before-preserved : goal.loop-before-preserved
 loop-before-preserved c =
-    let went = step_went c.loop-before.line c.loop-before.reader c.in-Some.field-0.before.now c.take_line.result c.take_line.new.self c.in-ok-at_line.field-0 c.take_line.ensures (sym c.at_line.ensures ∙ c.in-ok-at_line.was) in
+    let went = step_went c.loop-before.line c.loop-before.reader c.in-Some.field-0.before.now c.take_line.result c.take_line.new.self c.in_ok-at_line.field-0 c.take_line.ensures (sym c.at_line.ensures ∙ c.in_ok-at_line.was) in
     let next = on_line c.loop-before.line c.loop-before.reader c.loop-before.rest.now _ _ c.in-Some.ensures _ went in
     let counts = step_counts c.loop-before.reader c.in-Some.field-0.before.now c.take_line.new.self went in
     let long = cut-length c.loop-before.line c.loop-before.reader c.loop-before.rest.now _ _ c.in-Some.ensures in
@@ -25,4 +25,4 @@ loop-before-preserved c =
 pub returns : goal.returns
 returns c =
     c.at_line-2.ensures ∙ ap (at_line c.loop-before.line) c.finish.ensures
-    ∙ sym (on_rest c.loop-before.line c.loop-before.reader c.loop-before.rest.now c.in-default.ensures) ∙ c.loop-before.invariant.0
+    ∙ sym (on_rest c.loop-before.line c.loop-before.reader c.loop-before.rest.now c.in_default.ensures) ∙ c.loop-before.invariant.0

@@ -10,8 +10,8 @@ put_number-at-requires t c = (search rules, omega (arith, width_more c.args.n (o
 pub bounds-out-at : goal.bounds-out-at
 bounds-out-at t c = elim c.if-n-lt10.branch [ then-n-lt10 w ↦ omega (arith, width_one c.args.n (omega arith)) | else-n-lt10 w ↦ omega (arith, width_more c.args.n (omega arith) (omega arith)) ]
 
-pub overflow-add-result : goal.overflow-add-result
-overflow-add-result t c = elim c.if-n-lt10.branch [ then-n-lt10 w ↦ omega arith | else-n-lt10 w ↦ omega (arith, width_few (c.args.n / 10) (omega arith)) ]
+pub overflow_add-result : goal.overflow_add-result
+overflow_add-result t c = elim c.if-n-lt10.branch [ then-n-lt10 w ↦ omega arith | else-n-lt10 w ↦ omega (arith, width_few (c.args.n / 10) (omega arith)) ]
 
 pub returns : goal.returns
 returns t c =

@@ -2,8 +2,8 @@ use Rattle.std.proofs.Common.{sym, arith}
 use Rattle.pages.proofs.Over.{width_one, width_more, width_few}
 use Rattle.pages.proofs.parts.+width.Goals as goal
 
-pub overflow-add-result : goal.overflow-add-result
-overflow-add-result t c = omega arith
+pub overflow_add-result : goal.overflow_add-result
+overflow_add-result t c = omega arith
 
 pub returns-then-n-lt10 : goal.returns-then-n-lt10
 returns-then-n-lt10 t c = record { value = sym (width_one c.args.n (omega arith)); bound = omega arith }

@@ -5,8 +5,8 @@ use Rattle.rankings.specs.Facts.{leaf_of}
 use Rattle.rankings.specs.Totals.{total_next}
 use Rattle.rankings.proofs.sums.sum.Goals as goal
 
-pub overflow-add-sum : goal.overflow-add-sum
-overflow-add-sum g c = omega (arith, c.loop-leaf.invariant.1, c.weigh-sum.ensures.small, c.leaves-leaf-items.ensures.few, c.loop-leaf-test.true)
+pub overflow_add-sum : goal.overflow_add-sum
+overflow_add-sum g c = omega (arith, c.loop-leaf.invariant.1, c.weigh-sum.ensures.small, c.leaves-leaf-items.ensures.few, c.loop-leaf-test.true)
 
 pub loop-leaf-preserved : goal.loop-leaf-preserved
 loop-leaf-preserved g c =

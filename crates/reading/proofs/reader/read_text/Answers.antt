@@ -22,14 +22,14 @@ runs_on g by s =
     let law = lawful-from g.R.Ranking.before g.R.Ranking.mark m.irreflexive m.transitive m.ties m.inputs by in
     record { lawful = law; continues = λ ls u h. continues (record { before = g.R.Ranking.before by; mark = g.R.Ranking.mark; lawful = law }) ls s u h }
 
-pub returns-in-err-at_line : goal.returns-in-err-at_line
-returns-in-err-at_line g c =
+pub returns-in_err-at_line : goal.returns-in_err-at_line
+returns-in_err-at_line g c =
     let before = g.R.Ranking.before c.args.by.now in
     let here = point_in c.loop-before.reader c.loop-before.session in
     let there = point_in c.take_line.new.self c.take_line.new.session in
     let bytes = c.in-Some.field-0.before.now in
-    let e = err_from_is_err_and {Q = λ (y : TextFault). y ≡ c.in-err-at_line.field-0.0} c.from-residual.result c.from-residual.ensures.1 in
-    let f = step-stops before c.loop-before.line here there bytes c.take_line.result c.at_line.result c.in-err-at_line.field-0.0 c.take_line.ensures.steps c.at_line.ensures c.in-err-at_line.was in
+    let e = err_from_is_err_and {Q = λ (y : TextFault). y ≡ c.in_err-at_line.field-0.0} c.from-residual.result c.from-residual.ensures.1 in
+    let f = step-stops before c.loop-before.line here there bytes c.take_line.result c.at_line.result c.in_err-at_line.field-0.0 c.take_line.ensures.steps c.at_line.ensures c.in_err-at_line.was in
     let stop = on_fault before c.loop-before.line here c.loop-before.rest.now bytes _ c.in-Some.ensures f.0 f.1 in
     let said = ap answer_in (e.1 ∙ ap Err e.2) ∙ ap Err f.2 in
     let is = sym c.loop-before.invariant.0 ∙ stop ∙ (λ i. record { answer = sym said i; state = sym f.3 i }) in
@@ -60,7 +60,7 @@ loop-before-preserved g c =
     let here = point_in c.loop-before.reader c.loop-before.session in
     let there = point_in c.take_line.new.self c.take_line.new.session in
     let bytes = c.in-Some.field-0.before.now in
-    let went = step_went before c.loop-before.line here there bytes c.take_line.result c.at_line.result c.in-ok-at_line.field-0 c.take_line.ensures.steps c.at_line.ensures c.in-ok-at_line.was in
+    let went = step_went before c.loop-before.line here there bytes c.take_line.result c.at_line.result c.in_ok-at_line.field-0 c.take_line.ensures.steps c.at_line.ensures c.in_ok-at_line.was in
     let next = on_line before c.loop-before.line here c.loop-before.rest.now bytes _ c.in-Some.ensures there went in
     let long = cut-length before c.loop-before.line here c.loop-before.rest.now bytes _ c.in-Some.ensures in (
       sym next ∙ c.loop-before.invariant.0,
@@ -76,7 +76,7 @@ returns g c =
     let s = state_in c.args.session.now in
     let u = state_in c.loop-before.session in
     let text = c.args.text.now in
-    let is = sym c.loop-before.invariant.0 ∙ on_rest before c.loop-before.line here c.loop-before.rest.now c.in-default.ensures ∙ (λ i. record { answer = sym said i; state = u }) in
+    let is = sym c.loop-before.invariant.0 ∙ on_rest before c.loop-before.line here c.loop-before.rest.now c.in_default.ensures ∙ (λ i. record { answer = sym said i; state = u }) in
     record {
       reads = is;
       told = told before s text c.at_line-2.result u is;

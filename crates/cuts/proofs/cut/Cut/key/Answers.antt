@@ -6,8 +6,8 @@ use Rattle.cuts.specs.Meaning.{meaning}
 use Rattle.cuts.proofs.Bit.{odd}
 use Rattle.cuts.proofs.cut.Cut.key.Goals as goal
 
-pub invariant-of-cut : goal.invariant-of-cut
-invariant-of-cut c =
+pub invariant_of-cut : goal.invariant_of-cut
+invariant_of-cut c =
     let x = c.args.self.now in
     let s = eqb (bit_and x.table 1) 1 in (
       x.some,
@@ -17,8 +17,8 @@ invariant-of-cut c =
       ),
     )
 
-pub invariant-of-result : goal.invariant-of-result
-invariant-of-result c =
+pub invariant_of-result : goal.invariant_of-result
+invariant_of-result c =
     let t = c.args.self.now.table in
     (ap (λ w. bit_at w 0) (c.complement_if.ensures ∙ ap (λ s. inverted 4 s t) (odd t)) ∙ inverted_plain 4 t (omega arith), tt)
 

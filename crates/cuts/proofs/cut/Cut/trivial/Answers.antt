@@ -5,8 +5,8 @@ use Rattle.model.proofs.Wellformed.{trivial-table}
 use Rattle.cuts.proofs.Masks.{P, mask_of, mask_small, first-loose, first-tight}
 use Rattle.cuts.proofs.cut.Cut.trivial.Goals as goal
 
-pub invariant-of-result : goal.invariant-of-result
-invariant-of-result c = (
+pub invariant_of-result : goal.invariant_of-result
+invariant_of-result c = (
   omega arith,
   (
     λ i a b. first-loose i (omega arith) b,

@@ -7,8 +7,8 @@ use Rattle.cuts.specs.Meaning.{meaning}
 use Rattle.cuts.proofs.Keyed.{restored}
 use Rattle.cuts.proofs.key.CutKey.cut.Goals as goal
 
-pub invariant-of-result : goal.invariant-of-result
-invariant-of-result c =
+pub invariant_of-result : goal.invariant_of-result
+invariant_of-result c =
     let x = c.args.self.now.cut in
     let s = c.args.sign in (
       x.some,

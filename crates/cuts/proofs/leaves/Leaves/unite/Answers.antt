@@ -19,15 +19,15 @@ returns-then-count-most c =
 some : (c : goal.After-min) → (c.loop-i.i < length (leaves_of c.args.self.now)) ⊎ (c.loop-i.j < length (leaves_of c.args.other.now))
 some c = elim c.if-i-len.branch [ then-i-len w ↦ inl (omega arith) | else-i-len+then-j-len w ↦ inr (omega arith) ]
 
-pub overflow-cast-nodes : goal.overflow-cast-nodes
-overflow-cast-nodes c =
+pub overflow_cast-nodes : goal.overflow_cast-nodes
+overflow_cast-nodes c =
     let l = least_less c.min-most.result 65536 (leaves_of c.args.self.now) (leaves_of c.args.other.now) c.args.self.now.rising c.args.other.now.rising
     c.loop-i.i c.loop-i.j c.loop-i.count c.loop-i.nodes c.loop-i.invariant.0 (omega (arith, c.loop-i.invariant.0.few)) c.leaf_at-x.result c.leaf_at-y.result
     c.leaf_at-x.ensures.front c.leaf_at-y.ensures.front c.leaf_at-x.ensures.less c.leaf_at-y.ensures.less (some c) in
     omega (arith, c.min.ensures)
 
-pub overflow-add-j : goal.overflow-add-j
-overflow-add-j c = omega (arith, byte-most (leb c.leaf_at-y.result c.leaf_at-x.result), c.loop-i.invariant.0.of_b, length-take c.args.other.now.count c.args.other.now.nodes)
+pub overflow_add-j : goal.overflow_add-j
+overflow_add-j c = omega (arith, byte-most (leb c.leaf_at-y.result c.leaf_at-x.result), c.loop-i.invariant.0.of_b, length-take c.args.other.now.count c.args.other.now.nodes)
 
 pub loop-i-smaller : goal.loop-i-smaller
 loop-i-smaller c = omega (arith, c.loop-i.invariant.0.few)
@@ -46,8 +46,8 @@ all c =
     merged-all c.min-most.result (leaves_of c.args.self.now) (leaves_of c.args.other.now) c.args.self.now.rising c.args.other.now.rising
     c.loop-i.i c.loop-i.j c.loop-i.count c.loop-i.nodes c.loop-i.invariant.0 (omega arith) (omega arith)
 
-pub invariant-of-result : goal.invariant-of-result
-invariant-of-result c = (
+pub invariant_of-result : goal.invariant_of-result
+invariant_of-result c = (
   c.loop-i.invariant.1,
   (
     omega (arith, c.loop-i.invariant.0.few),

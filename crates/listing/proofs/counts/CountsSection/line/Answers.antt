@@ -4,5 +4,5 @@ use Rattle.sweeper.specs.States.{state_in}
 use Rattle.listing.specs.Listed.{next_none}
 use Rattle.listing.proofs.counts.CountsSection.line.Goals as goal
 
-pub returns-in-default : goal.returns-in-default
-returns-in-default c = next_none (tally_lines (state_in c.args.session.now).tally) c.args.k (omega arith)
+pub returns-in_default : goal.returns-in_default
+returns-in_default c = next_none (tally_lines (state_in c.args.session.now).tally) c.args.k (omega arith)

@@ -7,9 +7,9 @@ use Rattle.listing.proofs.maps.MapsSection.line.Goals as goal
 pub returns-then-k-count : goal.returns-then-k-count
 returns-then-k-count c = next_none (lines_of mapped (state_in c.args.session.now).mapped) c.args.k (omega arith)
 
-pub returns-in-err-edge : goal.returns-in-err-edge
-returns-in-err-edge c =
-    rw c.from-residual.ensures (numbers_tell mapped (state_in c.args.session.now).mapped c.args.k None c.in-err-edge.ensures)
+pub returns-in_err-edge : goal.returns-in_err-edge
+returns-in_err-edge c =
+    rw c.from-residual.ensures (numbers_tell mapped (state_in c.args.session.now).mapped c.args.k None c.in_err-edge.ensures)
 
 pub returns : goal.returns
-returns c = numbers_tell mapped (state_in c.args.session.now).mapped c.args.k (Some _) (ap Some c.number.ensures ∙ c.in-ok-edge.ensures)
+returns c = numbers_tell mapped (state_in c.args.session.now).mapped c.args.k (Some _) (ap Some c.number.ensures ∙ c.in_ok-edge.ensures)

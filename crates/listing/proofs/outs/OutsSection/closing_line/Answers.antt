@@ -2,7 +2,7 @@ use Rattle.std.proofs.Common.{arith}
 use Rattle.listing.specs.Counted.{few}
 use Rattle.listing.proofs.outs.OutsSection.closing_line.Goals as goal
 
-pub overflow-cast-result : goal.overflow-cast-result
-overflow-cast-result c =
+pub overflow_cast-result : goal.overflow_cast-result
+overflow_cast-result c =
     let most = few c.args.session.now in
     omega arith

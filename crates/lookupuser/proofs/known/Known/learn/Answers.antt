@@ -6,8 +6,8 @@ use Rattle.lookup.specs.Entries.{Stands}
 use Rattle.lookupuser.specs.Leaves.{leaf_meaning}
 use Rattle.lookupuser.proofs.known.Known.learn.Goals as goal
 
-pub invariant-of-self : goal.invariant-of-self
-invariant-of-self c =
+pub invariant_of-self : goal.invariant_of-self
+invariant_of-self c =
     let k = c.args.self.now in
     let xs = k.keys.slots.now in
     let look = found leaf_meaning hashed_slot xs in

@@ -1,5 +1,5 @@
 use Rattle.std.proofs.Common.{arith}
 use Rattle.lookupuser.proofs.known.Known.open.Goals as goal
 
-pub invariant-of-result : goal.invariant-of-result
-invariant-of-result c = (c.open.ensures.stands.tidy, (c.open.ensures.stands.count, (omega arith, tt)))
+pub invariant_of-result : goal.invariant_of-result
+invariant_of-result c = (c.open.ensures.stands.tidy, (c.open.ensures.stands.count, (omega arith, tt)))

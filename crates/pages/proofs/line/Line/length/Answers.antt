@@ -5,17 +5,17 @@ use Rattle.pages.specs.Lines.{numbered, line_in}
 use Rattle.pages.proofs.Wording.{key-few, numbered-long, gate-long, written-long}
 use Rattle.pages.proofs.line.Line.length.Goals as goal
 
-pub overflow-add-result : goal.overflow-add-result
-overflow-add-result c = omega (arith, ap length c.text.ensures, key-few c.in-Number.key)
+pub overflow_add-result : goal.overflow_add-result
+overflow_add-result c = omega (arith, ap length c.text.ensures, key-few c.in-Number.key)
 
-pub overflow-add-result-in-Number : goal.overflow-add-result-in-Number
-overflow-add-result-in-Number c = omega (arith, ap length c.text.ensures, key-few c.in-Number.key)
+pub overflow_add-result-in-Number : goal.overflow_add-result-in-Number
+overflow_add-result-in-Number c = omega (arith, ap length c.text.ensures, key-few c.in-Number.key)
 
-pub overflow-add-result-in-Gate : goal.overflow-add-result-in-Gate
-overflow-add-result-in-Gate c = omega arith
+pub overflow_add-result-in-Gate : goal.overflow_add-result-in-Gate
+overflow_add-result-in-Gate c = omega arith
 
-pub overflow-add-result-in-Gate-2 : goal.overflow-add-result-in-Gate-2
-overflow-add-result-in-Gate-2 c = omega arith
+pub overflow_add-result-in-Gate-2 : goal.overflow_add-result-in-Gate-2
+overflow_add-result-in-Gate-2 c = omega arith
 
 pub returns-in-Number : goal.returns-in-Number
 returns-in-Number c =

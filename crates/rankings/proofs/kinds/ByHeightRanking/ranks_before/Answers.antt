@@ -10,13 +10,13 @@ use Rattle.rankings.proofs.kinds.ByHeightRanking.ranks_before.Goals as goal
 count : (xs : List LeafFacts) (a : Facts) → map leaf_of xs ≡ a → length xs ≡ length a
 count xs a e = sym (length-map xs leaf_of) ∙ ap length e
 
-pub overflow-mul-result : goal.overflow-mul-result
-overflow-mul-result c =
+pub overflow_mul-result : goal.overflow_mul-result
+overflow_mul-result c =
     let h : c.sum.result * length c.leaves.result.now ≤ 65536 * positions * positions = mul-le-mul c.sum.ensures.small c.leaves.ensures.few in
     omega arith
 
-pub overflow-mul-result-2 : goal.overflow-mul-result-2
-overflow-mul-result-2 c =
+pub overflow_mul-result-2 : goal.overflow_mul-result-2
+overflow_mul-result-2 c =
     let h : c.sum-2.result * length c.leaves-2.result.now ≤ 65536 * positions * positions = mul-le-mul c.sum-2.ensures.small c.leaves-2.ensures.few in
     omega arith
 

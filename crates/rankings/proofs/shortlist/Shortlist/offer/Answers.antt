@@ -34,8 +34,8 @@ loop-i-preserved g c =
           c.loop-i.auto.i (omega (arith, c.min-end.ensures, c.loop-i-test.true)) c.loop-i.invariant.2 (ap (get_or ys c.loop-i.i) c.index-self-i.is),
     )
 
-pub invariant-of-self-2 : goal.invariant-of-self-2
-invariant-of-self-2 g c = (omega (arith, c.loop-i.invariant.2.long, c.min-end.ensures), tt)
+pub invariant_of-self-2 : goal.invariant_of-self-2
+invariant_of-self-2 g c = (omega (arith, c.loop-i.invariant.2.long, c.min-end.ensures), tt)
 
 pub returns : goal.returns
 returns g c =

@@ -8,15 +8,15 @@ use Rattle.reading.specs.Reading.{in_range}
 use Rattle.reading.proofs.Calling.{output_called, passed, arrived-ok, arrived-not}
 use Rattle.reading.proofs.reader.Reader.add_output.Goals as goal
 
-pub returns-in-err-output : goal.returns-in-err-output
-returns-in-err-output c =
+pub returns-in_err-output : goal.returns-in_err-output
+returns-in_err-output c =
     let s = state_in c.args.session.now in
     let u = state_in c.output.new.self in
-    let f = c.in-err-output.field-0.0 in
-    let told = c.in-err-output.ensures in
-    let due = passed (in_range c.args.edge) c.limited.ensures c.in-ok-limited.was in
+    let f = c.in_err-output.field-0.0 in
+    let told = c.in_err-output.ensures in
+    let due = passed (in_range c.args.edge) c.limited.ensures c.in_ok-limited.was in
     record {
-      takes = λ before. arrived-not before s u (Out c.args.edge) c.args.self.now.place Outs due c.from-residual-in-err-output.result f c.from-residual-in-err-output.ensures.1 (output_called {s = s} {u = u} {a = told_edge (Err f)} before c.new.ensures told.runs.steps) (ap state_of told.refused);
+      takes = λ before. arrived-not before s u (Out c.args.edge) c.args.self.now.place Outs due c.from-residual-in_err-output.result f c.from-residual-in_err-output.ensures.1 (output_called {s = s} {u = u} {a = told_edge (Err f)} before c.new.ensures told.runs.steps) (ap state_of told.refused);
       rest = told.rest;
     }
 
@@ -24,9 +24,9 @@ pub returns : goal.returns
 returns c =
     let s = state_in c.args.session.now in
     let u = state_in c.output.new.self in
-    let told = c.in-ok-output.ensures in
-    let due = passed (in_range c.args.edge) c.limited.ensures c.in-ok-limited.was in
+    let told = c.in_ok-output.ensures in
+    let due = passed (in_range c.args.edge) c.limited.ensures c.in_ok-limited.was in
     record {
-      takes = λ before. arrived-ok before s u (Out c.args.edge) c.args.self.now.place Outs due (output_called {s = s} {u = u} {a = told_edge (Ok c.in-ok-output.field-0)} before c.new.ensures told.runs.steps);
+      takes = λ before. arrived-ok before s u (Out c.args.edge) c.args.self.now.place Outs due (output_called {s = s} {u = u} {a = told_edge (Ok c.in_ok-output.field-0)} before c.new.ensures told.runs.steps);
       rest = told.rest;
     }

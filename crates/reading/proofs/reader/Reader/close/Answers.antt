@@ -5,5 +5,5 @@ use Rattle.reading.proofs.reader.Reader.close.Goals as goal
 
 pub returns : goal.returns
 returns c = λ before.
-    arrived-ok before _ _ _ c.args.self.now.place _ (ap (is_due c.args.n) (sym c.source_nodes.ensures) ∙ passed (is_due c.args.n c.source_nodes.result) c.expect.ensures c.in-ok-expect.was)
+    arrived-ok before _ _ _ c.args.self.now.place _ (ap (is_due c.args.n) (sym c.source_nodes.ensures) ∙ passed (is_due c.args.n c.source_nodes.result) c.expect.ensures c.in_ok-expect.was)
     (end-called before _ c.args.n)

@@ -9,8 +9,8 @@ use Rattle.sweeper.specs.Tables.{Image, image, with_cuts, with_keys, with_reduce
 use Rattle.sweeper.proofs.Growth.{grown, row-height-few, row-uses-few, used-other}
 use Rattle.sweeper.proofs.core_state.Core.grow.Goals as goal
 
-pub overflow-add-height : goal.overflow-add-height
-overflow-add-height c =
+pub overflow_add-height : goal.overflow_add-height
+overflow_add-height c =
     let i = image c.args.self.now in
     let g = c.requires.growable in
     let x = c.node-first.ensures in

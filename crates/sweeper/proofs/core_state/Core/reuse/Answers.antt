@@ -19,11 +19,11 @@ small : (s : Bool) → number s ≤ 1
 small true = omega arith
 small false = omega arith
 
-pub overflow-mul-node : goal.overflow-mul-node
-overflow-mul-node c = let f : c.in-Folded.node < 32768 = subst NodeFits c.in-Folded.is c.requires.fits in let g : 2 * c.in-Folded.node < 65536 = omega arith in search rules
+pub overflow_mul-node : goal.overflow_mul-node
+overflow_mul-node c = let f : c.in-Folded.node < 32768 = subst NodeFits c.in-Folded.is c.requires.fits in let g : 2 * c.in-Folded.node < 65536 = omega arith in search rules
 
-pub overflow-add-node : goal.overflow-add-node
-overflow-add-node c =
+pub overflow_add-node : goal.overflow_add-node
+overflow_add-node c =
     let f : c.in-Folded.node < 32768 = subst NodeFits c.in-Folded.is c.requires.fits in
     let g : 2 * c.in-Folded.node + bool_byte c.in-Folded.sign < 65536 = omega (arith, byte c.in-Folded.sign, small c.in-Folded.sign) in
     search rules

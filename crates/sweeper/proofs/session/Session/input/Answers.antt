@@ -7,8 +7,8 @@ use Rattle.sweeper.proofs.session.Session.input.Goals as goal
 pub input-requires : goal.input-requires
 input-requires c = record { sound = facts (image c.args.self.now.core) c.args.self.now.sound; reached = c.args.self.now.reached }
 
-pub invariant-of-self : goal.invariant-of-self
-invariant-of-self c = (∣ c.input.ensures.kept ∣₁, (reached-more c.input.ensures.steps c.args.self.now.reached, tt))
+pub invariant_of-self : goal.invariant_of-self
+invariant_of-self c = (∣ c.input.ensures.kept ∣₁, (reached-more c.input.ensures.steps c.args.self.now.reached, tt))
 
 pub returns : goal.returns
 returns c = record { runs = extends c.input.ensures.steps; rest = c.input.ensures.rest; refused = c.input.ensures.refused }

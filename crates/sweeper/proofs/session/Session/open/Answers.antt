@@ -1,8 +1,8 @@
 use Rattle.model.specs.Runs.{opening}
 use Rattle.sweeper.proofs.session.Session.open.Goals as goal
 
-pub invariant-of-result : goal.invariant-of-result
-invariant-of-result c = (∣ c.open.ensures.sound ∣₁, (∣ record { tables = _; events = _; run = opening c.open.ensures.state } ∣₁, tt))
+pub invariant_of-result : goal.invariant_of-result
+invariant_of-result c = (∣ c.open.ensures.sound ∣₁, (∣ record { tables = _; events = _; run = opening c.open.ensures.state } ∣₁, tt))
 
 pub returns : goal.returns
 returns c = record {
