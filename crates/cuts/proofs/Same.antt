@@ -1,5 +1,5 @@
 -- Leaves with unused places 0 are one value where their lists are one.
-use Rattle.std.proofs.Common.{◌≡◌, ℕ, ◌<◌, ◌≤◌, ◌⊎◌, List, length, get_or, take, sym, ap, ◌∙◌, ⊎_elim, arith, length-take-le, get_or-take, ext_get_or}
+use Rattle.std.proofs.Common.{◌≡◌, ℕ, ◌<◌, ◌≤◌, List, length, get_or, take, sym, ap, ◌∙◌, ⊎_elim, arith, length-take-le, get_or-take, ext_get_or}
 use Rattle.std.proofs.lemmas.Bool.{cases_lt}
 
 pub same-places : (c d : ℕ) (xs ys : List ℕ) → length xs ≡ length ys → c ≤ length xs → d ≤ length ys → ((k : ℕ) → c ≤ k → get_or xs k 0 ≡ 0) → ((k : ℕ) → d ≤ k → get_or ys k 0 ≡ 0)

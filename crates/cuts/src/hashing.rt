@@ -5,7 +5,7 @@ ghost use Rattle.lookup.specs.Hash.{hashed_slot};
 ghost use Rattle.cuts.specs.Meaning.{meaning as meant};
 ghost use Rattle.cuts.specs.Keys.{key_meaning};
 ghost use Rattle.lookup.specs.Mixing.{slot_within};
-ghost use Rattle.std.proofs.Common.{rules, arith};
+ghost use Rattle.std.proofs.Common.{rules};
 
 use crate::cut::Cut;
 use crate::key::CutKey;
@@ -24,7 +24,7 @@ impl HashedKey for CutKey {
 
     ghost within = { λ m n h. slot_within m n h };
 
-    ghost none = { first_of (Prim.search rules, Prim.grind (arith, Self.row.coded.inj)) };
+    ghost none = { Prim.search rules };
 
     fn first_slot(&self, slots: usize) -> usize {
         slot_of(mix_all(mix(0, self.table()), self.leaves()), slots)
@@ -45,7 +45,7 @@ impl HashedKey for Cut {
 
     ghost within = { λ m n h. slot_within m n h };
 
-    ghost none = { first_of (Prim.search rules, Prim.grind (arith, Self.row.coded.inj)) };
+    ghost none = { Prim.search rules };
 
     fn first_slot(&self, slots: usize) -> usize {
         self.key().0.first_slot(slots)

@@ -1,12 +1,12 @@
 //! From a cut to its key and sign, and back.
-ghost use Rattle.std.specs.Prelude.{◌≡◌, Decides};
+ghost use Rattle.std.specs.Prelude.{◌≡◌, Decides, nat_eq};
 ghost use Rattle.model.specs.Cuts.{key_list, key_sign};
 ghost use Rattle.model.specs.Sessions.{positions};
 ghost use Rattle.cuts.specs.Meaning.{meaning};
 ghost use Rattle.cuts.specs.Keys.{key_meaning, cut_of, Restores};
-ghost use Rattle.std.specs.Cmp.Rules.{comparing};
-ghost use Rattle.std.proofs.Common.{rules, arith};
-ghost use Rattle.std.specs.Cmp as Keys;
+ghost use Rattle.std.specs.Cmp.{on_equiv};
+ghost use Rattle.std.specs.Cmp as Cmp;
+ghost use Rattle.std.specs.Cmp.Lexicographic.{pointwise, nat_list_eq_equiv};
 
 use crate::cut::Cut;
 use crate::key::CutKey;
@@ -56,15 +56,18 @@ impl CutKey {
 }
 
 impl PartialEq for CutKey {
-    ghost equals = { λ x y r. Decides r (key_meaning x ≡ key_meaning y) };
+    ghost eq = { λ x y. pointwise nat_eq (key_meaning x) (key_meaning y) };
 
-    ghost laws = { Keys.partial_equiv_from_equiv (first_of (Prim.search (comparing, rules), Prim.grind (arith, Self.row.coded.inj))) };
+    ghost laws = { Cmp.partial_equiv_from_equiv (on_equiv key_meaning nat_list_eq_equiv) };
 
-    fn eq(&self, other: &CutKey) -> bool {
+    fn eq(&self, other: &CutKey) -> bool
+        ensures value { result ≡ pointwise nat_eq (key_meaning self.now) (key_meaning other.now) }
+        ensures exact { Decides result (key_meaning self.now ≡ key_meaning other.now) }
+    {
         self.cut == other.cut
     }
 }
 
 impl Eq for CutKey {
-    ghost laws = { first_of (Prim.search (comparing, rules), Prim.grind (arith, Self.row.coded.inj)) };
+    ghost laws = { on_equiv key_meaning nat_list_eq_equiv };
 }

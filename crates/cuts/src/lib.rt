@@ -1,5 +1,7 @@
 //! Cuts: edges, leaves, truth tables, stretching, masked leaves, joining and keys.
 //! Tables are worked on as whole words, by the masks of their positions.
+#![tactic(auto)]
+
 mod cut;
 mod edge;
 mod equality;

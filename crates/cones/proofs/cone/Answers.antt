@@ -30,13 +30,13 @@ pub returns-in_err-gates : goal.returns-in_err-gates
 returns-in_err-gates c =
     let s = state_in c.args.session.now in
     let e = c.args.e.number in
-    let exit = err_from_is_err_and c.from-residual.result c.from-residual.ensures.1 in
-    let is : c.from-residual.result ≡ capped (cone_of s.reduced e) c.args.cap =
+    let exit = err_from_is_err_and c.from_residual.result c.from_residual.ensures.1 in
+    let is : c.from_residual.result ≡ capped (cone_of s.reduced e) c.args.cap =
     exit.1 ∙ ap Err exit.2 ∙ c.in_err-gates.ensures ∙ ap (λ n. capped (gates_that (rests_on s.reduced n) s.reduced) c.args.cap) c.node-node.ensures in
     record {
-      runs = counts s e (length c.args.marks.now) c.args.cap (omega arith) (omega arith) c.from-residual.result is;
-      paths = cone-told s.reduced e c.args.cap (cone_of_lem s.reduced (ordered s c.args.session.now.reached) (node_of e)) c.from-residual.result is;
-      marked = marks_wiped _ _ (cone_of s.reduced e) c.args.cap (record { clear = search rules; number = search rules }) c.from-residual.result is;
+      runs = counts s e (length c.args.marks.now) c.args.cap (omega arith) (omega arith) c.from_residual.result is;
+      paths = cone-told s.reduced e c.args.cap (cone_of_lem s.reduced (ordered s c.args.session.now.reached) (node_of e)) c.from_residual.result is;
+      marked = marks_wiped _ _ (cone_of s.reduced e) c.args.cap (record { clear = search rules; number = search rules }) c.from_residual.result is;
     }
 
 pub returns : goal.returns

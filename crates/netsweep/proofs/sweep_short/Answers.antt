@@ -12,7 +12,7 @@ use Rattle.netsweep.proofs.sweep_short.Goals as goal
 
 pub returns-in_err-read_text : goal.returns-in_err-read_text
 returns-in_err-read_text c =
-    let p = err_from_is_err_and c.from-residual.result c.from-residual.ensures.1 in
+    let p = err_from_is_err_and c.from_residual.result c.from_residual.ensures.1 in
     let s = state_in c.open-session.result in
     let u = state_in c.read_text.new.session in
     let e = c.in_err-read_text.field-0.0 in
@@ -21,7 +21,7 @@ returns-in_err-read_text c =
 
 pub returns-in_err-write_report : goal.returns-in_err-write_report
 returns-in_err-write_report c =
-    let p = err_from_is_err_and c.from-residual-in_err-write_report.result c.from-residual-in_err-write_report.ensures.1 in
+    let p = err_from_is_err_and c.from_residual-in_err-write_report.result c.from_residual-in_err-write_report.ensures.1 in
     let s = state_in c.open-session.result in
     let u = state_in c.read_text.new.session in
     let f = told-ok by_height s c.args.text.now u c.read_text.result c.in_ok-read_text.field-0 c.in_ok-read_text.was c.read_text.ensures.told in

@@ -9,7 +9,7 @@ use Rattle.rebuild.proofs.rebuild.Goals as goal
 pub returns-in_err-length : goal.returns-in_err-length
 returns-in_err-length g c =
     let w = c.in_err-length.ensures in
-    let p = c.from-residual.ensures in ?
+    let p = c.from_residual.ensures in ?
 
 pub returns : goal.returns
 returns g c =

@@ -24,7 +24,7 @@ fill-requires-2 g c =
 
 pub returns-in_err-count : goal.returns-in_err-count
 returns-in_err-count g c =
-    let p = err_from_is_err_and c.from-residual.result c.from-residual.ensures.1 in
+    let p = err_from_is_err_and c.from_residual.result c.from_residual.ensures.1 in
     rw p.1 record {
       answer = both_first (state_in c.args.session.now) (length c.args.given.now) (length c.args.source.now) (length c.args.reduced.now) p.0 c.in_err-count.field-0.0 p.2 c.in_err-count.ensures;
       source = refl {a = c.args.source.now};
@@ -34,7 +34,7 @@ returns-in_err-count g c =
 
 pub returns-in_err-check_room : goal.returns-in_err-check_room
 returns-in_err-check_room g c =
-    let p = err_from_is_err_and c.from-residual-in_err-check_room.result c.from-residual-in_err-check_room.ensures.1 in
+    let p = err_from_is_err_and c.from_residual-in_err-check_room.result c.from_residual-in_err-check_room.ensures.1 in
     rw p.1 record {
       answer = both-second (state_in c.args.session.now) (length c.args.given.now) (length c.args.source.now) (length c.args.reduced.now) c.in_ok-count.count c.in_ok-count.ensures p.0 c.in_err-check_room.field-0.0 p.2 c.in_err-check_room.ensures;
       source = refl {a = c.args.source.now};

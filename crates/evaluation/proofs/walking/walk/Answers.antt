@@ -13,7 +13,7 @@ fill-requires g c =
 
 pub returns-in_err-count : goal.returns-in_err-count
 returns-in_err-count g c =
-    let p = err_from_is_err_and c.from-residual.result c.from-residual.ensures.1 in
+    let p = err_from_is_err_and c.from_residual.result c.from_residual.ensures.1 in
     rw p.1 record {
       runs = walk_refused (side_in c.args.side) (state_in c.args.session.now) (length c.args.given.now) (length c.args.places.now) p.0 c.in_err-count.field-0.0 p.2 c.in_err-count.ensures;
       places = refl {a = c.args.places.now};

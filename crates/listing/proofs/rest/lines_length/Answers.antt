@@ -4,7 +4,7 @@ use Rattle.pages.specs.Lines.{line_in}
 use Rattle.sweeper.specs.States.{state_in}
 use Rattle.listing.proofs.Onward.{none-past, text_more, text_end}
 use Rattle.listing.proofs.rest.lines_length.Goals as goal
-use Rattle.listing.proofs.rest.lines_length.Goals.{in-Some, in-default}
+use Rattle.listing.proofs.rest.lines_length.Goals.{in-Some, in_default}
 
 pub overflow_add-sum : goal.overflow_add-sum
 overflow_add-sum g c = omega (arith, c.loop-k.invariant.1, c.length-sum.ensures.bound)
@@ -22,7 +22,7 @@ loop-k-preserved g c =
           let more = ap length (text_more lines k l w.in-Some.ensures) ∙ length-append (written l) (text_of (drop (k + 1) lines)) in
           let e = w.length-sum.ensures in
           (omega (arith, more, c.loop-k.invariant.0, w.sum-is, e.value), omega (arith, c.loop-k.invariant.1, w.sum-is, e.bound))
-      | in-default w ↦ absurd (omega (arith, none-past lines k w.in_default.ensures))
+      | in_default w ↦ absurd (omega (arith, none-past lines k w.in_default.ensures))
     ]
 
 pub returns : goal.returns

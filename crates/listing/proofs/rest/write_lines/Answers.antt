@@ -4,7 +4,7 @@ use Rattle.pages.specs.Lines.{line_in}
 use Rattle.sweeper.specs.States.{state_in}
 use Rattle.listing.proofs.Onward.{none-past, text_more, text_end, written-some, none_yet, within, one_more, room-left, all_done}
 use Rattle.listing.proofs.rest.write_lines.Goals as goal
-use Rattle.listing.proofs.rest.write_lines.Goals.{in-Some+in-ok-end, in-default}
+use Rattle.listing.proofs.rest.write_lines.Goals.{in-Some+in-ok-end, in_default}
 
 pub loop-k-init : goal.loop-k-init
 loop-k-init g c = none_yet _ _ _
@@ -20,7 +20,7 @@ loop-k-preserved g c =
           let rest = text_of (drop (k + 1) lines) in
           let more = text_more lines k l w.in-Some.ensures in
           one_more _ _ (written l) rest _ _ _ _ c.loop-k.invariant more c.requires (within _ _ (written l) rest _ _ _ _ c.loop-k.invariant more c.requires (written-some l)) _ _ (w.end-is ∙ e.0) (w.page-is ∙ e.2)
-      | in-default w ↦ absurd (omega (arith, none-past lines k w.in_default.ensures))
+      | in_default w ↦ absurd (omega (arith, none-past lines k w.in_default.ensures))
     ]
 
 pub returns-in_err-end : goal.returns-in_err-end

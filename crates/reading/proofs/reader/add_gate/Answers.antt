@@ -20,7 +20,7 @@ returns-in_err-gate g c =
     let due = and_from _ _ (passed (in_range c.args.a) c.limited.ensures c.in_ok-limited.was) (passed (in_range c.args.b) c.limited-2.ensures c.in_ok-limited-2.was) in
     let ranking : Ranking positions = record { before = before; mark = g.R.Ranking.mark; lawful = told.runs.lawful } in
     record {
-      takes = taken_not before s u (Gate c.args.a c.args.b) due c.from-residual-in_err-gate.result f c.from-residual-in_err-gate.ensures.1 (gate-called {s = s} {u = u} {a = told_swept (Err f)} ranking c.new.ensures c.new-2.ensures told.runs.extends.steps) (ap state_of told.refused);
+      takes = taken_not before s u (Gate c.args.a c.args.b) due c.from_residual-in_err-gate.result f c.from_residual-in_err-gate.ensures.1 (gate-called {s = s} {u = u} {a = told_swept (Err f)} ranking c.new.ensures c.new-2.ensures told.runs.extends.steps) (ap state_of told.refused);
       rest = told.rest;
     }
 

@@ -24,7 +24,7 @@ returns-in_err-input c =
     let told = c.in_err-input.ensures in
     let due = ap (λ m. is_due c.args.n (m + 1)) (sym c.source_nodes.ensures) ∙ passed (is_due c.args.n (c.source_nodes.result + 1)) c.expect.ensures c.in_ok-expect.was in
     record {
-      takes = λ before. taken_not before s u (Input c.args.n) due c.from-residual-in_err-input.result f c.from-residual-in_err-input.ensures.1 (input-called {s = s} {u = u} {a = told_node (Err f)} before c.args.n told.runs.steps) (ap state_of told.refused);
+      takes = λ before. taken_not before s u (Input c.args.n) due c.from_residual-in_err-input.result f c.from_residual-in_err-input.ensures.1 (input-called {s = s} {u = u} {a = told_node (Err f)} before c.args.n told.runs.steps) (ap state_of told.refused);
       rest = told.rest;
     }
 

@@ -28,7 +28,7 @@ returns-in_err-at_line g c =
     let here = point_in c.loop-before.reader c.loop-before.session in
     let there = point_in c.take_line.new.self c.take_line.new.session in
     let bytes = c.in-Some.field-0.before.now in
-    let e = err_from_is_err_and {Q = λ (y : TextFault). y ≡ c.in_err-at_line.field-0.0} c.from-residual.result c.from-residual.ensures.1 in
+    let e = err_from_is_err_and {Q = λ (y : TextFault). y ≡ c.in_err-at_line.field-0.0} c.from_residual.result c.from_residual.ensures.1 in
     let f = step-stops before c.loop-before.line here there bytes c.take_line.result c.at_line.result c.in_err-at_line.field-0.0 c.take_line.ensures.steps c.at_line.ensures c.in_err-at_line.was in
     let stop = on_fault before c.loop-before.line here c.loop-before.rest.now bytes _ c.in-Some.ensures f.0 f.1 in
     let said = ap answer_in (e.1 ∙ ap Err e.2) ∙ ap Err f.2 in
@@ -38,9 +38,9 @@ returns-in_err-at_line g c =
     let text = c.args.text.now in
     record {
       reads = is;
-      told = told before s text c.from-residual.result u is;
-      accepts = accepts before s text c.from-residual.result u is;
-      refuses = refuses before s text c.from-residual.result u is;
+      told = told before s text c.from_residual.result u is;
+      accepts = accepts before s text c.from_residual.result u is;
+      refuses = refuses before s text c.from_residual.result u is;
       runs = runs_on g c.args.by.now s;
       rest = rest-joined (image_in c.args.session.now) (image_in c.loop-before.session) (image_in c.take_line.new.session) c.loop-before.invariant.2 c.take_line.ensures.rest (step-longer before here there bytes c.take_line.result c.take_line.ensures.steps);
     }

@@ -13,7 +13,7 @@ pub returns-in_err-all : goal.returns-in_err-all
 returns-in_err-all c =
     let a = leaves_of c.args.self.now.leaves in
     let b = leaves_of c.args.onto.now in
-    subst (Stretches (meaning c.args.self.now) b) (sym c.from-residual.ensures)
+    subst (Stretches (meaning c.args.self.now) b) (sym c.from_residual.ensures)
     (united-out 4 a b c.in_err-all.ensures (omega (arith, length-take c.args.onto.now.count c.args.onto.now.nodes)) c.args.onto.now.rising)
 
 pub stretch-requires : goal.stretch-requires
@@ -25,7 +25,7 @@ stretch-requires c =
       few = omega arith;
       rising = (subst Rising (sym c.leaves.ensures.list) c.args.self.now.leaves.rising, subst Rising (sym c.as_slice.ensures.list) c.args.onto.now.rising);
       within = subst (λ l. Within l c.as_slice.result.now) (sym c.leaves.ensures.list)
-          (subst (Within a) (sym c.as_slice.ensures.list) (unites_within a b (sym u.0 ∙ c.eq.ensures.0 c.if-eq.true)));
+          (subst (Within a) (sym c.as_slice.ensures.list) (unites_within a b (sym u.0 ∙ c.eq.ensures.exact.0 c.if-eq.true)));
       loose = subst (Loose 4 c.args.self.now.table) (sym c.leaves.ensures.count) c.args.self.now.loose;
     }
 
@@ -34,7 +34,7 @@ returns-then-eq c =
     let a = leaves_of c.args.self.now.leaves in
     let b = leaves_of c.args.onto.now in
     let u = united-is 4 (leaves_of c.in_ok-all.all) a b c.in_ok-all.ensures in (
-      unites_within a b (sym u.0 ∙ c.eq.ensures.0 c.if-eq.true),
+      unites_within a b (sym u.0 ∙ c.eq.ensures.exact.0 c.if-eq.true),
       c.stretch.ensures
           ∙ ap₂ {A = List ℕ} {B = List ℕ} (λ l m. stretched 4 (record { leaves = l; table = c.args.self.now.table }) m) c.leaves.ensures.list c.as_slice.ensures.list,
     )
@@ -44,4 +44,4 @@ returns-else-eq c w =
     let a = leaves_of c.args.self.now.leaves in
     let b = leaves_of c.args.onto.now in
     let u = united-is 4 (leaves_of c.in_ok-all.all) a b c.in_ok-all.ensures in
-    both_ways c.eq.result c.if-eq.false (c.eq.ensures.1 (u.0 ∙ within_unites a b c.args.onto.now.rising w))
+    both_ways c.eq.result c.if-eq.false (c.eq.ensures.exact.1 (u.0 ∙ within_unites a b c.args.onto.now.rising w))

@@ -6,13 +6,11 @@ use Rattle.cuts.proofs.Masks.{P, mask_of, mask_small, first-loose, first-tight}
 use Rattle.cuts.proofs.cut.Cut.trivial.Goals as goal
 
 pub invariant_of-result : goal.invariant_of-result
-invariant_of-result c = (
-  omega arith,
-  (
-    λ i a b. first-loose i (omega arith) b,
-    (λ i h. subst (λ n. masked P 0xAAAA n ≡ false) (omega arith) first-tight, tt),
-  ),
-)
+invariant_of-result c = record {
+  some = omega arith;
+  loose = λ i a b. first-loose i (omega arith) b;
+  tight = λ i h. subst (λ n. masked P 0xAAAA n ≡ false) (omega arith) first-tight;
+}
 
 pub returns : goal.returns
 returns c =

@@ -10,13 +10,12 @@ use Rattle.cuts.proofs.key.CutKey.cut.Goals as goal
 pub invariant_of-result : goal.invariant_of-result
 invariant_of-result c =
     let x = c.args.self.now.cut in
-    let s = c.args.sign in (
-      x.some,
-      (
-        subst (λ w. Loose 4 w x.leaves.count) (sym c.complement_if.ensures) (inverted-loose 4 s x.table x.leaves.count (omega arith) x.loose),
-        (subst (λ w. (i : ℕ) → i < x.leaves.count → masked 4 w i ≡ false) (sym c.complement_if.ensures) (inverted-tight 4 s x.table x.leaves.count (omega arith) (omega arith) x.tight), tt),
-      ),
-    )
+    let s = c.args.sign in
+    record {
+      some = x.some;
+      loose = subst (λ w. Loose 4 w x.leaves.count) (sym c.complement_if.ensures) (inverted-loose 4 s x.table x.leaves.count (omega arith) x.loose);
+      tight = subst (λ w. (i : ℕ) → i < x.leaves.count → masked 4 w i ≡ false) (sym c.complement_if.ensures) (inverted-tight 4 s x.table x.leaves.count (omega arith) (omega arith) x.tight);
+    }
 
 pub returns : goal.returns
 returns c =

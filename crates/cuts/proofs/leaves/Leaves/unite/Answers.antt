@@ -47,16 +47,12 @@ all c =
     c.loop-i.i c.loop-i.j c.loop-i.count c.loop-i.nodes c.loop-i.invariant.0 (omega arith) (omega arith)
 
 pub invariant_of-result : goal.invariant_of-result
-invariant_of-result c = (
-  c.loop-i.invariant.1,
-  (
-    omega (arith, c.loop-i.invariant.0.few),
-    (
-      subst Rising (sym (all c)) (unite-rising (leaves_of c.args.self.now) (leaves_of c.args.other.now) c.args.other.now.rising),
-      (c.loop-i.invariant.0.zeros, tt),
-    ),
-  ),
-)
+invariant_of-result c = record {
+  places = c.loop-i.invariant.1;
+  few = omega (arith, c.loop-i.invariant.0.few);
+  rising = subst Rising (sym (all c)) (unite-rising (leaves_of c.args.self.now) (leaves_of c.args.other.now) c.args.other.now.rising);
+  zeros = c.loop-i.invariant.0.zeros;
+}
 
 pub returns : goal.returns
 returns c =

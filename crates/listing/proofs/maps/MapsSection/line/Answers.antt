@@ -9,7 +9,7 @@ returns-then-k-count c = next_none (lines_of mapped (state_in c.args.session.now
 
 pub returns-in_err-edge : goal.returns-in_err-edge
 returns-in_err-edge c =
-    rw c.from-residual.ensures (numbers_tell mapped (state_in c.args.session.now).mapped c.args.k None c.in_err-edge.ensures)
+    rw c.from_residual.ensures (numbers_tell mapped (state_in c.args.session.now).mapped c.args.k None c.in_err-edge.ensures)
 
 pub returns : goal.returns
 returns c = numbers_tell mapped (state_in c.args.session.now).mapped c.args.k (Some _) (ap Some c.number.ensures ∙ c.in_ok-edge.ensures)

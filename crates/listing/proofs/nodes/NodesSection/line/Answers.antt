@@ -14,7 +14,7 @@ overflow_cast-k c = omega (arith, nodes_count (state_in c.args.session.now).redu
 pub returns-in_err-row : goal.returns-in_err-row
 returns-in_err-row c =
     let s = state_in c.args.session.now in
-    rw c.from-residual.ensures (nodes_tell s.reduced c.args.k None (ap node_of c.in_err-row.ensures ∙ node_entry s (c.args.k + 1)))
+    rw c.from_residual.ensures (nodes_tell s.reduced c.args.k None (ap node_of c.in_err-row.ensures ∙ node_entry s (c.args.k + 1)))
 
 pub returns : goal.returns
 returns c =

@@ -16,7 +16,7 @@ returns-in_err-output c =
     let told = c.in_err-output.ensures in
     let due = passed (in_range c.args.edge) c.limited.ensures c.in_ok-limited.was in
     record {
-      takes = λ before. arrived-not before s u (Out c.args.edge) c.args.self.now.place Outs due c.from-residual-in_err-output.result f c.from-residual-in_err-output.ensures.1 (output_called {s = s} {u = u} {a = told_edge (Err f)} before c.new.ensures told.runs.steps) (ap state_of told.refused);
+      takes = λ before. arrived-not before s u (Out c.args.edge) c.args.self.now.place Outs due c.from_residual-in_err-output.result f c.from_residual-in_err-output.ensures.1 (output_called {s = s} {u = u} {a = told_edge (Err f)} before c.new.ensures told.runs.steps) (ap state_of told.refused);
       rest = told.rest;
     }
 
