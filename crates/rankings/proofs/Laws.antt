@@ -1,5 +1,5 @@
 -- The laws of a kind of ranking, at one ranking of it, as the model's record, and the facts that they speak of. Assumes nothing.
-use Rattle.std.proofs.Common.{◌≡◌, Bool, true, false, length, take, arith}
+use Rattle.std.proofs.Common.{◌≡◌, Bool, true, false, take, arith}
 use Rattle.std.proofs.lemmas.List.{length-map, length-take-le}
 use Rattle.model.specs.Rankings.{Facts, Before, Sized, any_gate, Lawful}
 use Rattle.model.specs.Sessions.{positions}

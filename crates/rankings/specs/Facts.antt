@@ -1,5 +1,5 @@
 -- What the facts of a cut mean: the list of what is told of each leaf.
-use Rattle.std.specs.Prelude.{ℕ, List, map, take}
+use Rattle.std.specs.Prelude.{map, take}
 use Rattle.model.specs.Rankings.{LeafFacts as Leaf, Facts}
 use Rattle.rankings.specs.declared.facts.LeafFacts.{LeafFacts}
 use Rattle.rankings.specs.declared.facts.CutFacts.{CutFacts}

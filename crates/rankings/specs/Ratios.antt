@@ -1,6 +1,6 @@
 -- Ratios of whole numbers, compared by products. Assumes nothing.
-use Rattle.std.specs.Prelude.{◌≡◌, ℕ, ◌*◌, ◌<◌, ◌≤◌}
-use Rattle.std.proofs.Common.{sym, ap, ◌∙◌, subst, arith, mul_right_comm, mul-lt-mul_of_pos_right, lt_of_mul-lt-mul_right}
+use Rattle.std.specs.Prelude.{◌≡◌, ℕ, ◌*◌, ◌<◌}
+use Rattle.std.proofs.Common.{ap, arith, mul_right_comm, mul-lt-mul_of_pos_right, lt_of_mul-lt-mul_right}
 use Rattle.std.proofs.Math.Nat.{eq_of_mul-eq-mul_right}
 
 -- x / l < y / m and y / m < z / n

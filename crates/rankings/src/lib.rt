@@ -1,5 +1,7 @@
 // Rankings of cuts, by the heights and uses of their leaves, and the choice of the first few by any ranking.
 // A ranking of one's own is an impl of `Ranking`: its relation, its mark, and the proofs of four laws.
+#![tactic(auto)]
+
 mod candidate;
 mod choosing;
 mod facts;

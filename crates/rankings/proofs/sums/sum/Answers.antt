@@ -1,4 +1,4 @@
-use Rattle.std.proofs.Common.{◌≡◌, map, length, take, sym, ap, ◌∙◌, arith}
+use Rattle.std.proofs.Common.{map, take, ap, ◌∙◌, arith}
 use Rattle.std.proofs.lemmas.List.{map_more, take_all}
 use Rattle.model.specs.Rankings.{total}
 use Rattle.rankings.specs.Facts.{leaf_of}

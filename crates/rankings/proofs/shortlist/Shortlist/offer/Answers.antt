@@ -1,10 +1,10 @@
 use Rattle.std.proofs.Common.{◌≡◌, ℕ, ◌≤◌, Bool, List, length, get_or, take, drop, sym, refl, ap, ◌∙◌, arith}
 use Rattle.std.specs.List.{insert}
 use Rattle.std.proofs.lemmas.List.{length-take-le}
-use Rattle.model.specs.Rankings.{rank_in, spot}
+use Rattle.model.specs.Rankings.{spot}
 use Rattle.model.proofs.Ranks.{spot-within, rank_in-spot}
 use Rattle.rankings.specs.Candidates.{by_facts}
-use Rattle.rankings.proofs.Inserts.{Shifted, shift_start, shift_more, inserted_first, next-unused}
+use Rattle.rankings.proofs.Inserts.{shift_start, shift_more, inserted_first, next-unused}
 use Rattle.rankings.proofs.shortlist.Shortlist.offer.Goals as goal
 
 -- the place is among the first n, or just after them
@@ -35,7 +35,7 @@ loop-i-preserved g c =
     )
 
 pub invariant_of-self-2 : goal.invariant_of-self-2
-invariant_of-self-2 g c = (omega (arith, c.loop-i.invariant.2.long, c.min-end.ensures), tt)
+invariant_of-self-2 g c = record { within = omega (arith, c.loop-i.invariant.2.long, c.min-end.ensures) }
 
 pub returns : goal.returns
 returns g c =

@@ -1,4 +1,4 @@
-use Rattle.std.proofs.Common.{sym, ap, ◌∙◌, arith}
+use Rattle.std.proofs.Common.{sym, ◌∙◌, arith}
 use Rattle.model.proofs.Ranks.{spot-here, spot_on, spot-all}
 use Rattle.rankings.specs.Candidates.{by_facts}
 use Rattle.rankings.proofs.shortlist.offer.place.Goals as goal
