@@ -1,5 +1,7 @@
 //! The heart of a gate call: the cuts of both fanins joined pair by pair, and what that decides.
 //! Either the gate is an edge that is there already, or it keeps the first few of the candidates by a ranking.
+#![tactic(auto)]
+
 mod consider;
 mod deciding;
 mod decision;

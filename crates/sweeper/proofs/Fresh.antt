@@ -1,5 +1,5 @@
 -- A session on cleared slots, before any call.
-use Rattle.std.proofs.Common.{◌≡◌, ℕ, zero, suc, ◌+◌, ◌*◌, ◌/◌, ◌<◌, ◌≤◌, min, List, [], ◌∷◌, length, take, None, sym, refl, ap, ◌∙◌, ⊎_elim, arith, take_all}
+use Rattle.std.proofs.Common.{◌≡◌, ℕ, ◌*◌, ◌/◌, ◌<◌, ◌≤◌, min, List, [], ◌∷◌, length, take, None, sym, refl, ap, ◌∙◌, ⊎_elim, arith, take_all}
 use Rattle.std.proofs.lemmas.Bool.{cases_lt}
 use Rattle.model.specs.Graphs.{uses, find_pair, find_key}
 use Rattle.model.specs.Sessions.{Tables, opened, node_limit, output_limit, capacity_of, no_tally}

@@ -1,10 +1,10 @@
 -- What a gate call does to the tables is what the model's step does to the state.
-use Rattle.std.proofs.Common.{◌≡◌, ℕ, zero, suc, ◌+◌, ◌*◌, ◌<◌, ◌≤◌, min, max, Bool, true, false, cond, ltb, List, [], ◌∷◌, map, length, get_or, drop, set, Some, None, Option, sym, refl, ap, ◌∙◌, subst, ap₂, arith, length-set, get_or-set_other, get_or-set_same, drop-set-lt}
+use Rattle.std.proofs.Common.{◌≡◌, ℕ, suc, ◌+◌, ◌<◌, ◌≤◌, min, max, Bool, true, false, cond, List, ◌∷◌, map, length, get_or, drop, set, Some, None, sym, refl, ap, ◌∙◌, ap₂, arith, length-set, get_or-set_other, get_or-set_same, drop-set-lt}
 use Rattle.std.proofs.lemmas.Bool.{lt-ltb, le-ltb}
 use Rattle.model.specs.Edges.{node_of, edge}
 use Rattle.model.specs.Graphs.{gate, find_pair}
-use Rattle.model.specs.Rankings.{Before, Ranking, Lawful}
-use Rattle.model.specs.Search.{Decision, folded, shared, merged, made, fold_pair, decide, in_order}
+use Rattle.model.specs.Rankings.{Before, Ranking}
+use Rattle.model.specs.Search.{Decision, folded, shared, made, fold_pair, decide, in_order}
 use Rattle.model.specs.Sessions.{State, positions, lean, step, gate_call, gate_step, sweep_gate, with_gate, map_edge, knows, has_room, edge_of, outcome_of}
 use Rattle.model.specs.Sessions as model
 use Rattle.model.specs.Runs.{Steps}
@@ -17,7 +17,7 @@ use Rattle.sweeper.specs.declared.tally.Outcome.TheVariants.{Made, Folded, Share
 use Rattle.sweeper.specs.declared.tally.Tally.{Tally}
 use Rattle.sweeper.specs.Tallies.{count_of, raised, tallied, outcome_in, row_of, no_row}
 use Rattle.sweeper.specs.Tables.{Image, Sound, state_of, graph_of, kept_of, node_in, no_source, no_edge, newest, after_edge, Grown, Rest, by_cuts}
-use Rattle.sweeper.proofs.Newest.{newest-length, newest-push}
+use Rattle.sweeper.proofs.Newest.{newest-push}
 use Rattle.sweeper.proofs.Mapping.{sources-are, is_known, is_unknown}
 
 -- the tally in the model

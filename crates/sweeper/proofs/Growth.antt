@@ -1,15 +1,14 @@
 -- One more gate keeps what the tables stand for.
-use Rattle.std.proofs.Common.{◌≡◌, ℕ, zero, suc, ◌+◌, ◌-◌, ◌*◌, ◌<◌, ◌≤◌, max, Bool, true, false, cond, ◌&&◌, ◌||◌, eqb, ◌⊎◌, List, [], ◌∷◌, ◌++◌, map, length, get_or, take, drop, set, Some, None, Option, sym, refl, ap, ◌∙◌, subst, ap₂, inl, inr, ⊎_elim, append_assoc, arith, length-append, length-drop, length-set, take-append-drop, length-take-le, get_or-set_other, get_or-set_same, drop-set-lt}
+use Rattle.std.proofs.Common.{◌≡◌, ℕ, zero, suc, ◌+◌, ◌-◌, ◌*◌, ◌<◌, ◌≤◌, max, Bool, true, false, cond, ◌&&◌, ◌||◌, eqb, List, [], ◌∷◌, ◌++◌, map, length, get_or, take, drop, set, Some, None, sym, refl, ap, ◌∙◌, subst, ap₂, ⊎_elim, append_assoc, arith, length-append, length-drop, length-set, take-append-drop, length-take-le, get_or-set_other, get_or-set_same, drop-set-lt}
 use mathlib.Core.Bool.{and-true, and-false}
 use lib.Seq.{take-append-le, drop-append-le, take-append_seam, drop-append_seam}
 use Rattle.std.proofs.lemmas.Slice.{drop-append-drop}
 use Rattle.std.proofs.lemmas.Bool.{cases_eq, cases_lt, eq-eqb, ne_eqb}
 use Rattle.model.specs.Tables.{number}
-use Rattle.model.specs.Cuts.{Cut as Meant, key_list, key_sign}
+use Rattle.model.specs.Cuts.{key_list, key_sign}
 use Rattle.model.specs.Edges.{node_of, edge, signed}
-use Rattle.model.specs.Keys.{eq_list, first_of}
+use Rattle.model.specs.Keys.{first_of}
 use Rattle.model.specs.Graphs.{Node, input, gate, Graph, at, height, heights, uses, find_pair, find_key, or_else}
-use Rattle.model.specs.Rankings.{Every}
 use Rattle.model.specs.Sessions.{positions}
 use Rattle.model.proofs.Growing.{height-old, length-heights, at_new, at_none}
 use Rattle.model.proofs.Inputs.{input-height}
@@ -25,7 +24,7 @@ use Rattle.lookup.specs.Hash.{hashed_slot}
 use Rattle.lookup.specs.Entries.{Stands, with_entry, taken}
 use Rattle.search.specs.declared.rows.Node.TheVariants.{Gate}
 use Rattle.search.specs.declared.rows.ReducedRow.{ReducedRow}
-use Rattle.sweeper.specs.Tables.{Image, Sound, graph_of, kept_of, node_in, no_reduced, newest, kept_from, pair_look, stored, look_with, Enters, used_once, used_at, Growable, Grown}
+use Rattle.sweeper.specs.Tables.{Image, Sound, graph_of, kept_of, node_in, no_reduced, kept_from, pair_look, stored, look_with, Enters, used_once, used_at, Growable, Grown}
 use Rattle.sweeper.proofs.Newest.{newest-length, newest-set, newest-push, kept-length, kept_set, kept_push}
 
 -- ---- a list stored in a list

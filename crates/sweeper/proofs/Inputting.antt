@@ -1,8 +1,8 @@
 -- One more input keeps what the tables stand for.
-use Rattle.std.proofs.Common.{◌≡◌, ℕ, zero, suc, ◌+◌, ◌*◌, ◌<◌, ◌≤◌, Bool, true, false, cond, ltb, ◌⊎◌, List, [], ◌∷◌, map, length, get_or, set, Some, None, Option, sym, refl, ap, ◌∙◌, subst, ap₂, ⊎_elim, add-one, arith, length-set, get_or-set_other, get_or-set_same}
+use Rattle.std.proofs.Common.{◌≡◌, ℕ, suc, ◌+◌, ◌*◌, ◌<◌, ◌≤◌, true, false, cond, List, [], ◌∷◌, length, get_or, set, sym, refl, ap, ◌∙◌, subst, ⊎_elim, arith, length-set, get_or-set_other, get_or-set_same}
 use Rattle.std.proofs.lemmas.Bool.{cases_eq, lt-ltb, le-ltb}
-use Rattle.model.specs.Edges.{node_of, edge}
-use Rattle.model.specs.Graphs.{input, gate, Graph, at, height, heights, uses, find_pair, find_key}
+use Rattle.model.specs.Edges.{edge}
+use Rattle.model.specs.Graphs.{input, height, uses, find_pair, find_key}
 use Rattle.model.specs.Keys.{first_of}
 use Rattle.model.specs.Sessions.{State, positions, step, input_call, with_input, has_room, input_step}
 use Rattle.model.specs.Sessions as model
@@ -10,13 +10,12 @@ use Rattle.model.specs.Runs.{Steps}
 use Rattle.model.proofs.Growing.{height-old}
 use Rattle.model.proofs.Inputs.{input-height}
 use Rattle.cuts.specs.declared.edge.Edge.{Edge}
-use Rattle.search.specs.declared.rows.Node.TheVariants.{Input, Gate}
-use Rattle.sweeper.specs.declared.rows.SourceRow.{SourceRow}
+use Rattle.search.specs.declared.rows.Node.TheVariants.{Input}
 use Rattle.search.specs.declared.rows.ReducedRow.{ReducedRow}
-use Rattle.sweeper.specs.Tables.{Image, Sound, state_of, graph_of, kept_of, node_in, no_source, no_reduced, newest, kept_from, pair_look}
+use Rattle.sweeper.specs.Tables.{Image, Sound, state_of, graph_of, kept_of, node_in, no_source, no_reduced, newest, pair_look}
 use Rattle.sweeper.specs.Runs.{Reached}
 use Rattle.sweeper.proofs.Reaching.{unused}
-use Rattle.sweeper.proofs.Newest.{newest-length, newest-set, newest-push, newest-at, kept-length, kept_set, kept_push}
+use Rattle.sweeper.proofs.Newest.{newest-length, newest-push, kept_push}
 
 abbrev input_row : ReducedRow
 input_row = record { node = Input; facts = record { height = 0; uses = 0 }; kept = 0 }

@@ -1,21 +1,20 @@
 -- What a search is told of leaves and cuts is what the graph has.
-use Rattle.std.proofs.Common.{◌≡◌, ℕ, zero, suc, ◌+◌, ◌-◌, ◌*◌, ◌<◌, ◌≤◌, min, Bool, true, false, cond, eqb, ◌⊎◌, List, [], ◌∷◌, map, length, get_or, take, drop, Option, sym, refl, ap, ◌∙◌, subst, ap₂, ⊎_elim, arith, length-take, length-take-le, take_all, get_or-take}
-use Rattle.std.proofs.lemmas.Bool.{cases_eq, cases_lt, eq-eqb, ne_eqb}
+use Rattle.std.proofs.Common.{◌≡◌, ℕ, suc, ◌-◌, ◌*◌, ◌<◌, ◌≤◌, Bool, List, [], ◌∷◌, map, length, get_or, take, drop, Option, sym, ap, ◌∙◌, ⊎_elim, arith, length-take-le, take_all, get_or-take}
+use Rattle.std.proofs.lemmas.Bool.{cases_eq, cases_lt, ne_eqb}
 use Rattle.std.proofs.lemmas.List.{get_or_past}
-use Rattle.model.specs.Cuts.{Cut as Meant, trivial}
+use Rattle.model.specs.Cuts.{trivial}
 use Rattle.model.specs.Edges.{node_of, sign_of}
 use Rattle.model.specs.Graphs.{at, height, heights, uses, find_key}
-use Rattle.model.specs.Graphs as graph
 use Rattle.model.specs.Rankings.{LeafFacts, Before}
-use Rattle.model.specs.Search.{leaf_in, decide_cuts, Decision}
-use Rattle.model.specs.Sessions.{positions, lean}
+use Rattle.model.specs.Search.{leaf_in, decide_cuts}
+use Rattle.model.specs.Sessions.{positions}
 use Rattle.model.proofs.Growing.{at_zero, at_none, length-heights}
 use Rattle.cuts.specs.declared.cut.Cut.{Cut}
 use Rattle.cuts.specs.Meaning.{meaning}
 use Rattle.search.specs.Leaves.{leaf_at, no_row}
 use Rattle.search.specs.Fanins.{limits_of, most}
 use Rattle.sweeper.specs.Runs.{Reached}
-use Rattle.sweeper.specs.Tables.{Image, Sound, state_of, graph_of, kept_of, node_in, no_reduced, newest, by_cuts}
+use Rattle.sweeper.specs.Tables.{Image, Sound, state_of, graph_of, kept_of, node_in, no_reduced, by_cuts}
 use Rattle.sweeper.proofs.Newest.{newest-length, kept_at}
 use Rattle.sweeper.proofs.Reaching.{unused}
 

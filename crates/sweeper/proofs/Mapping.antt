@@ -1,5 +1,5 @@
 -- Mapped edges and outputs, as the tables hold them.
-use Rattle.std.proofs.Common.{◌≡◌, ℕ, zero, suc, ◌+◌, ◌-◌, ◌<◌, ◌≤◌, Bool, true, false, cond, ltb, leb, List, [], ◌∷◌, length, get_or, set, sym, refl, ap, ◌∙◌, subst, ap₂, arith, length-set}
+use Rattle.std.proofs.Common.{◌≡◌, ℕ, suc, ◌+◌, ◌-◌, ◌<◌, ◌≤◌, Bool, true, false, cond, ltb, ◌∷◌, length, get_or, set, sym, refl, ap, ◌∙◌, ap₂, arith, length-set}
 use Rattle.std.proofs.lemmas.Bool.{le-leb, lt-leb, lt-ltb, le-ltb}
 use Rattle.model.specs.Edges.{node_of, sign_of, signed}
 use Rattle.model.specs.Graphs.{at}
@@ -8,7 +8,7 @@ use Rattle.model.specs.Sessions as model
 use Rattle.model.specs.Runs.{Steps}
 use Rattle.model.proofs.Growing.{at_zero}
 use Rattle.cuts.specs.declared.edge.Edge.{Edge}
-use Rattle.sweeper.specs.Tables.{Image, Sound, state_of, node_in, no_source, no_edge, newest}
+use Rattle.sweeper.specs.Tables.{Image, Sound, state_of, node_in, no_source, no_edge}
 use Rattle.sweeper.proofs.Newest.{newest-length, newest-at, newest-push}
 
 module _ (c : Image) where

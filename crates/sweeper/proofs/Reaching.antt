@@ -1,16 +1,15 @@
 -- What holds of every state that a run leads to.
-use Rattle.std.proofs.Common.{◌≡◌, ℕ, suc, ◌+◌, ◌<◌, ◌≤◌, Bool, true, false, ◌||◌, eqb, List, [], ◌∷◌, length, sym, refl, ap, ◌∙◌, arith}
+use Rattle.std.proofs.Common.{◌≡◌, ℕ, ◌<◌, ◌≤◌, false, eqb, [], ◌∷◌, length, refl, arith}
 use mathlib.Core.Logic.{∥∥₁_elim, ∥∥₁_map}
 use native.Mathlib.Bridge.{le_prop}
 use native.Mathlib.Nat.{ℕ_set}
 use Rattle.std.proofs.lemmas.Bool.{ne_eqb}
-use Rattle.model.specs.Tables.{number}
 use Rattle.model.specs.Edges.{node_of}
 use Rattle.model.specs.Graphs.{input, gate, Graph, uses, Ordered}
-use Rattle.model.specs.Sessions.{State, positions, lean, map_edge, Call, Answer}
-use Rattle.model.specs.Runs.{Run, Steps, opening, calling}
+use Rattle.model.specs.Sessions.{State, positions, map_edge, Call, Answer}
+use Rattle.model.specs.Runs.{Steps, calling}
 use Rattle.model.proofs.Consistent.{run_consistent, map-within}
-use Rattle.sweeper.specs.Runs.{Led, Reached}
+use Rattle.sweeper.specs.Runs.{Reached}
 
 uses-none : (g : Graph) → Ordered g → (n : ℕ) → length g < n → uses g n ≡ 0
 unfolding uses

@@ -1,14 +1,14 @@
 -- What a gate call may rely on in a session that calls led to.
-use Rattle.std.proofs.Common.{◌≡◌, ℕ, zero, suc, ◌+◌, ◌-◌, ◌*◌, ◌^◌, ◌<◌, ◌≤◌, min, max, Bool, true, false, cond, not, ◌||◌, eqb, ◌⊎◌, List, [], ◌∷◌, map, length, Some, None, Option, sym, refl, ap, ◌∙◌, subst, ap₂, inl, inr, ⊎_elim, arith}
+use Rattle.std.proofs.Common.{◌≡◌, ℕ, ◌+◌, ◌≤◌, min, max, Bool, true, false, cond, not, ◌||◌, eqb, List, [], ◌∷◌, map, length, Some, None, sym, refl, ap, ◌∙◌, subst, ap₂, arith}
 use mathlib.Core.Logic.{∥∥₁_elim}
 use native.Mathlib.Bridge.{le_prop}
-use Rattle.std.proofs.lemmas.Bool.{eq-eqb, cases_lt, both_ways}
+use Rattle.std.proofs.lemmas.Bool.{eq-eqb, both_ways}
 use Rattle.model.specs.Cuts.{Cut as Meant, joined, key_list}
 use Rattle.model.specs.Edges.{node_of, sign_of, edge, signed}
 use Rattle.model.specs.Graphs.{input, gate, Graph, find_pair, find_key, cuts_of}
 use Rattle.model.specs.Rankings.{Before, Every, first_by}
-use Rattle.model.specs.Search.{Decision, folded, shared, merged, made, Search, ended, candidates, fold_pair, chosen, by_leaves, leaf_in, search_in, decide}
-use Rattle.model.specs.Sessions.{State, positions, lean, map_edge}
+use Rattle.model.specs.Search.{folded, made, Search, ended, candidates, fold_pair, chosen, by_leaves, leaf_in, search_in, decide}
+use Rattle.model.specs.Sessions.{positions, lean, map_edge}
 use Rattle.model.specs.RunLaws.{gates}
 use Rattle.model.proofs.Candidates.{every_candidate, search_makes_none}
 use Rattle.model.proofs.Consistent.{run_consistent, decided-within}
@@ -17,7 +17,6 @@ use Rattle.model.proofs.History.{gates-told}
 use Rattle.model.proofs.Lists.{every-chosen}
 use Rattle.model.proofs.Naming.{DecidedWithin}
 use Rattle.model.proofs.Signs.{edge-parts, signed-edge, node-edge}
-use Rattle.model.specs.Tables.{flip_if}
 use Rattle.cuts.specs.declared.cut.Cut.{Cut}
 use Rattle.cuts.specs.declared.edge.Edge.{Edge}
 use Rattle.search.specs.Finding.{existing}

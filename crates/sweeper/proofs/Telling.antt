@@ -1,5 +1,5 @@
 -- What is told of a node is what the graph has.
-use Rattle.std.proofs.Common.{◌≡◌, ℕ, suc, ◌+◌, ◌-◌, ◌*◌, ◌<◌, ◌≤◌, Bool, true, false, cond, ◌||◌, eqb, ltb, ◌⊎◌, List, [], map, length, get_or, take, drop, Some, None, Option, sym, refl, ap, ◌∙◌, inl, inr, ⊎_elim, arith, length-drop, length-take}
+use Rattle.std.proofs.Common.{◌≡◌, ℕ, suc, ◌-◌, ◌*◌, ◌<◌, ◌≤◌, Bool, true, false, cond, eqb, ltb, ◌⊎◌, List, [], length, get_or, take, drop, Some, None, Option, sym, refl, ap, ◌∙◌, ⊎_elim, arith, length-drop, length-take}
 use lib.ListN.{length-map}
 use Rattle.std.proofs.lemmas.Bool.{eq-eqb, ne_eqb, lt-ltb, le-ltb, or_parts, eqb-false, ltb-false}
 use Rattle.model.specs.Graphs.{input, at, height, uses}
@@ -7,7 +7,7 @@ use Rattle.model.proofs.Growing.{at_zero, at_none}
 use Rattle.cuts.specs.Meaning.{meaning}
 use Rattle.search.specs.declared.rows.ReducedRow.{ReducedRow}
 use Rattle.sweeper.specs.Tables.{Image, Sound, state_of, graph_of, kept_of, node_in, no_reduced, newest}
-use Rattle.sweeper.specs.Reports.{described, described_in, Described, outside, entry, row_at}
+use Rattle.sweeper.specs.Reports.{described, described_in, outside, entry, row_at}
 use Rattle.sweeper.proofs.Newest.{newest-length, newest-at, kept-length, kept_at}
 
 module _ (c : Image) where

@@ -1,5 +1,5 @@
 -- What the tables stand for: the state of a session in the model.
-use Rattle.std.specs.Prelude.{◌≡◌, ℕ, zero, suc, ◌+◌, ◌*◌, ◌<◌, ◌≤◌, Bool, true, false, cond, List, [], ◌∷◌, ◌++◌, map, length, get_or, take, drop, Some, None, Option, slice_index_or, slice_set}
+use Rattle.std.specs.Prelude.{◌≡◌, ℕ, zero, suc, ◌+◌, ◌*◌, ◌<◌, ◌≤◌, List, [], ◌∷◌, ◌++◌, map, length, get_or, take, drop, Some, None, Option, slice_index_or, slice_set}
 use Rattle.model.specs.Cuts.{Cut as Meant, key_list, key_sign}
 use Rattle.model.specs.Keys.{first_of}
 use Rattle.model.specs.Rankings.{Every, Before}

@@ -1,5 +1,5 @@
 -- The tally's rows, one for each outcome.
-use Rattle.std.specs.Prelude.{ℕ, ◌+◌, List, [], ◌∷◌, slice_index_or, slice_set}
+use Rattle.std.specs.Prelude.{ℕ, ◌+◌, slice_index_or, slice_set}
 use Rattle.model.specs.Sessions.{was_made, was_folded, was_shared, was_merged}
 use Rattle.model.specs.Sessions as model
 use Rattle.sweeper.specs.declared.tally.Outcome.{Outcome}

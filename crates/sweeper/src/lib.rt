@@ -1,5 +1,7 @@
 // The sweeping session: tables that a caller lends, the calls on them, and the laws that every run of calls keeps.
 // `Core` has the tables and counts and does the work; `Session` covers it with the facts that every call needs and keeps.
+#![tactic(auto)]
+
 mod accepting;
 mod core_state;
 mod deciding;

@@ -23,7 +23,7 @@ returns-in-None c =
       next = c.add.ensures.next;
       is = ap (λ xs. candidates (map meaning xs)) (c.add.ensures.adds ∙ room_adds (places_of d) (λ c. key_list positions (meaning c)) c.in-Cut.cut xs (omega (arith, c.requires, length-take-le d.count d.places.now d.within)))
           ∙ ap candidates (added-map meaning (key_list positions) c.in-Cut.cut xs)
-          ∙ wide positions look cut _ (listed d) two (c.in-None.ensures.exact ∙ ap look c.key_sign.ensures.key)
+          ∙ wide positions look cut _ (listed d) two (c.in-None.ensures.exact ∙ ap look c.key-sign.ensures.key)
           ∙ ap (λ j. considered positions look (joined_of j) (listed d)) (sym c.in-Cut.is);
     }
 
@@ -36,7 +36,7 @@ returns-in-Some c =
     record {
       room = search rules;
       next = search rules;
-      is = ap (λ n. ended (merged n)) (c.complement_if.ensures ∙ ap (λ n. signed n c.key_sign.result.1) c.new.ensures ∙ ap (signed c.in-Some.edge) c.key_sign.ensures.sign)
-          ∙ wide positions look cut _ (listed d) two (c.in-Some.ensures.exact ∙ ap look c.key_sign.ensures.key)
+      is = ap (λ n. ended (merged n)) (c.complement_if.ensures ∙ ap (λ n. signed n c.key-sign.result.1) c.new.ensures ∙ ap (signed c.in-Some.edge) c.key-sign.ensures.sign)
+          ∙ wide positions look cut _ (listed d) two (c.in-Some.ensures.exact ∙ ap look c.key-sign.ensures.key)
           ∙ ap (λ j. considered positions look (joined_of j) (listed d)) (sym c.in-Cut.is);
     }

@@ -1,4 +1,4 @@
-use Rattle.std.proofs.Common.{inl, inr, arith}
+use Rattle.std.proofs.Common.{inl, inr}
 use Rattle.sweeper.specs.Tables.{image}
 use Rattle.sweeper.proofs.Telling.{no_cuts}
 use Rattle.sweeper.proofs.core_state.Core.cuts_of.Goals.{then-node-eq0-via-then-node-eq0, then-node-eq0-via-else-node-eq0+then-node-self}

@@ -1,4 +1,4 @@
-use Rattle.std.proofs.Common.{◌≡◌, [], length, take, sym, refl, ap, ◌∙◌, arith}
+use Rattle.std.proofs.Common.{[], length, take, refl, ap, ◌∙◌, arith}
 use Rattle.model.specs.Edges.{node_of, sign_of}
 use Rattle.model.specs.Graphs.{at}
 use Rattle.cuts.specs.Keys.{key_meaning}

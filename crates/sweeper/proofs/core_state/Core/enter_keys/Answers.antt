@@ -1,4 +1,4 @@
-use Rattle.std.proofs.Common.{◌≡◌, take, sym, refl, ap, ◌∙◌, subst, add-zero, arith, take_all}
+use Rattle.std.proofs.Common.{◌≡◌, take, refl, ap, ◌∙◌, subst, take_all}
 use Rattle.model.specs.Edges.{signed}
 use Rattle.sweeper.specs.Tables.{image, with_keys, Enters}
 use Rattle.sweeper.proofs.Storing.{enters_none, enters_more}
@@ -11,8 +11,8 @@ pub loop-cut-preserved : goal.loop-cut-preserved
 loop-cut-preserved c = (
   ap (λ i. with_keys i c.enter.new.self.slots.now) c.loop-cut.invariant.0,
   enters_more c.args.kept.now c.args.edge.number (image c.args.self.now).keys c.loop-cut.self.keys.slots.now c.enter.new.self.slots.now
-      c.loop-cut.cut-index c.cut-item.result c.key_sign.result.0 c.number.result c.loop-cut-test.true c.cut-item.is c.key_sign.ensures.key
-      (c.number.ensures ∙ c.complement_if.ensures ∙ ap (signed c.args.edge.number) c.key_sign.ensures.sign)
+      c.loop-cut.cut-index c.cut-item.result c.key-sign.result.0 c.number.result c.loop-cut-test.true c.cut-item.is c.key-sign.ensures.key
+      (c.number.ensures ∙ c.complement_if.ensures ∙ ap (signed c.args.edge.number) c.key-sign.ensures.sign)
       c.loop-cut.invariant.1 c.enter.ensures.slots c.enter.ensures.room (λ look n st h k. (c.enter.ensures.new look n st h k).1),
 )
 

@@ -1,4 +1,4 @@
-use Rattle.std.proofs.Common.{◌≡◌, min, max, refl, ap, ◌∙◌, ap₂, arith}
+use Rattle.std.proofs.Common.{refl, arith}
 use Rattle.rankings.proofs.Laws.{lawful-from}
 use Rattle.sweeper.specs.Tables.{image}
 use Rattle.sweeper.proofs.Gated.{same_rest, gate-first, gate-second, gate-full}

@@ -1,11 +1,10 @@
-use Rattle.std.proofs.Common.{◌≡◌, ℕ, ◌+◌, ◌-◌, ◌<◌, ◌≤◌, max, List, [], ◌∷◌, length, get_or, set, sym, refl, ap, ◌∙◌, subst, ap₂, arith, length-set, rules}
-use Rattle.model.specs.Edges.{node_of}
+use Rattle.std.proofs.Common.{◌≡◌, ◌+◌, ◌-◌, ◌<◌, ◌≤◌, max, List, [], ◌∷◌, length, get_or, sym, refl, ap, ◌∙◌, subst, ap₂, arith, length-set, rules}
 use Rattle.lookup.specs.Pairs.{pair_meaning}
 use Rattle.lookup.specs.Hash.{hashed_slot}
 use Rattle.lookup.specs.Entries.{Stands, with_entry, taken}
 use Rattle.search.specs.declared.rows.ReducedRow.{ReducedRow}
 use Rattle.search.specs.declared.rows.Node.TheVariants.{Gate}
-use Rattle.sweeper.specs.Tables.{Image, image, with_cuts, with_keys, with_reduced, with_pairs, with_row, used_at, used_once, no_reduced, pair_look, graph_of, Grown, Enters, stored}
+use Rattle.sweeper.specs.Tables.{image, with_keys, with_reduced, with_pairs, with_row, used_at, used_once, no_reduced, pair_look, graph_of, Grown, Enters}
 use Rattle.sweeper.proofs.Growth.{grown, row-height-few, row-uses-few, used-other}
 use Rattle.sweeper.proofs.core_state.Core.grow.Goals as goal
 

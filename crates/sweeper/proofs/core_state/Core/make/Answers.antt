@@ -1,4 +1,4 @@
-use Rattle.std.proofs.Common.{◌≡◌, sym, refl, ap, ◌∙◌, subst, arith}
+use Rattle.std.proofs.Common.{sym, ap, ◌∙◌, subst, arith}
 use Rattle.model.specs.Sessions.{swept, was_made}
 use Rattle.sweeper.specs.declared.tally.Outcome.TheVariants.{Made}
 use Rattle.sweeper.specs.Tables.{Sound, image, Growable, Grown, node_in, no_reduced}

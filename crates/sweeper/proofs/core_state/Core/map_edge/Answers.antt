@@ -1,5 +1,5 @@
-use Rattle.std.proofs.Common.{◌≡◌, ◌-◌, get_or, ap, ◌∙◌, ap₂, arith}
-use Rattle.model.specs.Edges.{node_of, signed}
+use Rattle.std.proofs.Common.{◌-◌, get_or, ◌∙◌, ap₂, arith}
+use Rattle.model.specs.Edges.{signed}
 use Rattle.sweeper.specs.Tables.{image, no_source}
 use Rattle.sweeper.proofs.Mapping.{map-constant, map_row}
 use Rattle.sweeper.proofs.core_state.Core.map_edge.Goals as goal

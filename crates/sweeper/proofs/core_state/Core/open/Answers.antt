@@ -1,4 +1,4 @@
-use Rattle.std.proofs.Common.{◌≡◌, ◌/◌, min, length, take, sym, refl, ap, ◌∙◌, arith, length-take}
+use Rattle.std.proofs.Common.{◌≡◌, min, length, take, refl, ap, ◌∙◌, arith, length-take}
 use Rattle.model.specs.Sessions.{Tables, capacity_of, node_limit}
 use Rattle.sweeper.proofs.Fresh.{fresh-sound, fresh-state, take_min}
 use Rattle.sweeper.proofs.core_state.Core.open.Goals as goal

@@ -1,9 +1,9 @@
-use Rattle.std.proofs.Common.{◌≡◌, ℕ, ◌+◌, ◌*◌, ◌<◌, ◌≤◌, Bool, true, false, sym, refl, ap, ◌∙◌, subst, arith, rules}
+use Rattle.std.proofs.Common.{◌≡◌, ◌+◌, ◌*◌, ◌<◌, ◌≤◌, Bool, true, false, sym, refl, ap, ◌∙◌, subst, arith, rules}
 use mir.Val.{bool_byte}
 use Rattle.model.specs.Tables.{number}
 use Rattle.model.specs.Edges.{edge}
 use Rattle.model.specs.Search.{folded, merged}
-use Rattle.model.specs.Sessions.{swept, was_folded, was_merged, with_gate, outcome_of, edge_of}
+use Rattle.model.specs.Sessions.{swept, was_folded, with_gate, outcome_of, edge_of}
 use Rattle.search.specs.Finding.{existing}
 use Rattle.sweeper.specs.declared.tally.Outcome.TheVariants.{Folded, Merged}
 use Rattle.sweeper.specs.Tables.{Sound, image, state_of, graph_of, Rest}

@@ -1,5 +1,5 @@
-use Rattle.std.proofs.Common.{◌≡◌, refl, ap, ◌∙◌, arith}
-use Rattle.sweeper.specs.Tables.{image, with_cuts, stored}
+use Rattle.std.proofs.Common.{ap, arith}
+use Rattle.sweeper.specs.Tables.{image, with_cuts}
 use Rattle.sweeper.proofs.Storing.{put-stored}
 use Rattle.sweeper.proofs.core_state.Core.store_cuts.Goals as goal
 

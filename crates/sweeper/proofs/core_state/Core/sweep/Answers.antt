@@ -1,19 +1,16 @@
-use Rattle.std.proofs.Common.{◌≡◌, ℕ, suc, ◌<◌, ◌≤◌, map, length, take, Some, None, sym, refl, ap, ◌∙◌, subst, ap₂, arith, length-take, length-take-le}
-use Rattle.model.specs.Edges.{node_of}
-use Rattle.model.specs.Graphs.{find_pair, find_key}
-use Rattle.model.specs.Cuts.{key_list}
+use Rattle.std.proofs.Common.{◌≡◌, map, take, Some, None, sym, refl, ap, ◌∙◌, subst, ap₂, arith, length-take}
+use Rattle.model.specs.Graphs.{find_pair}
 use Rattle.model.specs.Rankings.{Ranking}
 use Rattle.model.specs.Runs.{Steps}
 use Rattle.model.specs.Search.{folded, shared, made, fold_pair}
-use Rattle.model.specs.Sessions.{positions, gate_call, with_gate}
+use Rattle.model.specs.Sessions.{positions, gate_call}
 use Rattle.model.proofs.Deciding.{fold-none}
 use Rattle.cuts.specs.Meaning.{meaning}
 use Rattle.rankings.proofs.Laws.{lawful-from}
-use Rattle.search.specs.Decisions.{decision_of, kept_by}
 use Rattle.search.specs.Finding.{existing}
-use Rattle.sweeper.specs.declared.tally.Outcome.TheVariants.{Made, Folded, Shared}
-use Rattle.sweeper.specs.Answers.{numbered, swept_in, NodeFits}
-use Rattle.sweeper.specs.Tables.{Sound, image, state_of, graph_of, kept_of, by_cuts, Rest}
+use Rattle.sweeper.specs.declared.tally.Outcome.TheVariants.{Folded, Shared}
+use Rattle.sweeper.specs.Answers.{numbered, swept_in}
+use Rattle.sweeper.specs.Tables.{Sound, image, state_of, graph_of, by_cuts, Rest}
 use Rattle.sweeper.proofs.Gated.{edge-sound, edge-state, edge-rest, gate-done, decide-folded, decide-shared, decide-cuts}
 use Rattle.sweeper.proofs.Sweeping.{tally-few, low-known, high_known, node-fits, growable}
 use Rattle.sweeper.proofs.core_state.Core.sweep.Goals as goal

@@ -8,7 +8,7 @@ pub gate-requires : goal.gate-requires
 gate-requires g c = record { sound = facts (image c.args.self.now.core) c.args.self.now.sound; reached = c.args.self.now.reached }
 
 pub invariant_of-self : goal.invariant_of-self
-invariant_of-self g c = (∣ c.gate.ensures.kept ∣₁, (reached-more c.gate.ensures.gates.steps c.args.self.now.reached, tt))
+invariant_of-self g c = record { sound = ∣ c.gate.ensures.kept ∣₁; reached = reached-more c.gate.ensures.gates.steps c.args.self.now.reached }
 
 pub returns : goal.returns
 returns g c = record {

@@ -8,7 +8,7 @@ pub input-requires : goal.input-requires
 input-requires c = record { sound = facts (image c.args.self.now.core) c.args.self.now.sound; reached = c.args.self.now.reached }
 
 pub invariant_of-self : goal.invariant_of-self
-invariant_of-self c = (∣ c.input.ensures.kept ∣₁, (reached-more c.input.ensures.steps c.args.self.now.reached, tt))
+invariant_of-self c = record { sound = ∣ c.input.ensures.kept ∣₁; reached = reached-more c.input.ensures.steps c.args.self.now.reached }
 
 pub returns : goal.returns
 returns c = record { runs = extends c.input.ensures.steps; rest = c.input.ensures.rest; refused = c.input.ensures.refused }

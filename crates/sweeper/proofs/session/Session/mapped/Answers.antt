@@ -1,4 +1,3 @@
-use Rattle.std.proofs.Common.{sym, ◌∙◌}
 use Rattle.sweeper.specs.Tables.{image, no_source}
 use Rattle.sweeper.proofs.Facts.{facts}
 use Rattle.sweeper.proofs.Telling.{row_told}

@@ -8,7 +8,7 @@ pub output-requires : goal.output-requires
 output-requires c = record { sound = facts (image c.args.self.now.core) c.args.self.now.sound }
 
 pub invariant_of-self : goal.invariant_of-self
-invariant_of-self c = (∣ c.output.ensures.kept ∣₁, (reached-more c.output.ensures.steps c.args.self.now.reached, tt))
+invariant_of-self c = record { sound = ∣ c.output.ensures.kept ∣₁; reached = reached-more c.output.ensures.steps c.args.self.now.reached }
 
 pub returns : goal.returns
 returns c = record { runs = extends c.output.ensures.steps; rest = c.output.ensures.rest; refused = c.output.ensures.refused }

@@ -1,4 +1,3 @@
-use Rattle.std.proofs.Common.{sym, ◌∙◌}
 use Rattle.sweeper.specs.Tables.{image, no_source, node_in}
 use Rattle.model.specs.Graphs.{input}
 use Rattle.sweeper.proofs.Facts.{facts}
