@@ -1,5 +1,7 @@
 //! Compares the proved joining of cuts with a plain one, which goes bit by bit over the rows of a table.
 //! It prints how many joins of a fixed sequence agree, and what they came to.
+#![tactic(auto)]
+
 mod plain;
 
 use cuts::{Cut, Joined, join};

@@ -1,5 +1,7 @@
 // Runs written sessions through the sweeping session and compares every answer with the one that is written beside its call.
 // It prints how many sessions agree in every answer, and how many answers agree, which its file stdout holds.
+#![tactic(auto)]
+
 mod longer;
 mod playing;
 mod step;
