@@ -1,5 +1,7 @@
 // Compares the answers of the library netlist with a table of texts, and counts its answers for texts next to a good one.
 // It prints how many cases of the table agree, each that does not, and the counts, which its file stdout holds.
+#![tactic(auto)]
+
 mod nearby;
 mod table;
 

@@ -1,6 +1,6 @@
 -- a text that is told to follow the rules, or to break one, is answered so
 use Rattle.std.proofs.Common.{◌≡◌, ℕ, ◌+◌, Bool, true, false, cond, List, [], ◌∷◌, ◌++◌, length, Some, None, Ok, Err, Option, Result, sym, refl, ap, ◌∙◌, subst, inl, inr, arith}
-use Rattle.std.specs.List.{flat_map, AllByRecursion as All}
+use Rattle.std.specs.List.{flat_map, AllByRecursion}
 use Rattle.std.proofs.lemmas.List.{append_assoc, append-nil}
 use Rattle.netlist.specs.declared.lines.Line.{Line}
 use Rattle.netlist.specs.declared.lines.Line.TheVariants.{Net, Input, Gate, Out, End}
@@ -42,7 +42,7 @@ in_order_read l after s t k o fit =
     ∙ ap (λ u. read_rest (k + 1) u after) (sym o.goes)
 
 -- lines in order, whose numbers are small enough, are read
-pub read_on : (ls : List Line) (after : List ℕ) (s t : Reader) (k : ℕ) → Passes s ls t → All Fit ls → read_rest k s (flat_map written ls ++ after) ≡ read_rest (k + length ls) t after
+pub read_on : (ls : List Line) (after : List ℕ) (s t : Reader) (k : ℕ) → Passes s ls t → AllByRecursion Fit ls → read_rest k s (flat_map written ls ++ after) ≡ read_rest (k + length ls) t after
 read_on [] after s t k p fit = (λ i. read_rest ((let z : k ≡ k + 0 = omega arith in z) i) (p i) after)
 read_on (l ∷ ls) after s t k p fit =
     ap (read_rest k s) (append_assoc (written l) (flat_map written ls) after)

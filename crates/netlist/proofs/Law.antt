@@ -1,6 +1,6 @@
 -- reading answers a graph's outline just for its text, and otherwise the first line that breaks a rule
 use Rattle.std.proofs.Common.{◌≡◌, ℕ, ◌+◌, Bool, true, false, cond, eqb, List, [], ◌∷◌, ◌++◌, length, Some, None, Ok, Err, Option, Result, sym, refl, ap, ◌∙◌, subst, inl, inr, arith}
-use Rattle.std.specs.List.{flat_map, AllByRecursion as All}
+use Rattle.std.specs.List.{flat_map, AllByRecursion}
 use Rattle.std.proofs.ByRecursion.{All-push}
 use Rattle.std.proofs.lemmas.List.{append_assoc, append-nil, length_push, flat_map_more}
 use Rattle.std.proofs.lemmas.Bool.{eqb-true, eqb-false}
@@ -27,7 +27,7 @@ ended10 l = l ++ 10 ∷ []
 -- the lines of a text put together again
 pub record Cutting (text : List ℕ) (c : Lines) : Type 0 where
   pub whole : text ≡ flat_map ended10 c.ended ++ c.rest
-  pub each : All (Lacks 10) c.ended
+  pub each : AllByRecursion (Lacks 10) c.ended
   pub last : Lacks 10 c.rest
 
 cutting-longer : (c : ℕ) (cs : List ℕ) (ls : List (List ℕ)) (rest : List ℕ) → (c ≡ 10 → ⊥) → Cutting cs (record { ended = ls; rest = rest }) → Cutting (c ∷ cs) (longer c ls rest)
@@ -64,7 +64,7 @@ pub record Sofar (text : List ℕ) (before : List Line) (s : Reader) (left : Lis
   pub whole : text ≡ flat_map written before ++ left
   pub state : State before s
   pub passed : Passes begun before s
-  pub fit : All Fit before
+  pub fit : AllByRecursion Fit before
 
 refused : (text : List ℕ) (before : List Line) (s : Reader) (left : List ℕ) (k : ℕ) (f : ReadFault) → Sofar text before s left → k ≡ length before + 1 → Breaks before left f → Refused text (record { line = k; fault = f })
 refused text before s left k f h e b = record { before = before; rest = left; whole = h.whole; place = e; begins = state-begins before s h.state; fit = h.fit; breaks = b }
@@ -81,7 +81,7 @@ module _ (text : List ℕ) (before : List Line) (s : Reader) (k : ℕ) (e : k �
       record {
         graph = g.0;
         whole = h.whole ∙ append-nil (flat_map written before) ∙ ap (flat_map written) g.1;
-        fit = subst (All Fit) g.1 h.fit;
+        fit = subst (AllByRecursion Fit) g.1 h.fit;
         told = ap counted g.2 ∙ ap (λ n. record { inputs = (outline_of g.0).inputs; gates = (outline_of g.0).gates; outs = (outline_of g.0).outs; end = n }) (nodes_count g.0.nodes);
       }
 
@@ -166,7 +166,7 @@ module _ (text : List ℕ) (before : List Line) (s : Reader) (k : ℕ) (bs after
   tell_read (Ok l) is next = tell-line l is (next l) (leads_to s.place (kind_of l)) refl
   tell_read (Err d) is next = tell_shape d is
 
-tell : (ls : List (List ℕ)) (rest text : List ℕ) (before : List Line) (s : Reader) (k : ℕ) → All (Lacks 10) ls → Lacks 10 rest → k ≡ length before + 1 → Sofar text before s (flat_map ended10 ls ++ rest) → Told text (read_lines k s ls rest)
+tell : (ls : List (List ℕ)) (rest text : List ℕ) (before : List Line) (s : Reader) (k : ℕ) → AllByRecursion (Lacks 10) ls → Lacks 10 rest → k ≡ length before + 1 → Sofar text before s (flat_map ended10 ls ++ rest) → Told text (read_lines k s ls rest)
 unfolding read_lines
 tell [] rest text before s k each last e h = tell-rest text before s k e rest last h
 tell (l ∷ ls) rest text before s k each last e h =

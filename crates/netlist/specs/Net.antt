@@ -1,6 +1,6 @@
 -- which texts are nets, and where another text goes wrong
 use Rattle.std.specs.Prelude.{◌≡◌, ℕ, ◌+◌, ◌<◌, ◌⊎◌, List, [], ◌∷◌, ◌++◌, map, length, decimal, Result, MatchResult, ◌≢◌}
-use Rattle.std.specs.List.{flat_map, AllByRecursion as All}
+use Rattle.std.specs.List.{flat_map, AllByRecursion}
 use Rattle.netlist.specs.declared.lines.Key.TheVariants as key
 use Rattle.netlist.specs.declared.lines.Line.{Line}
 use Rattle.netlist.specs.declared.lines.Line.TheVariants.{Net, Input, Gate, Out, End}
@@ -75,7 +75,7 @@ outline_of g = record { inputs = inputs_in g.nodes; gates = gates_in g.nodes; ou
 pub record Follows (text : List ℕ) (outline : Outline) : Type 0 where
   pub graph : Graph
   pub whole : text ≡ flat_map written (net_lines graph)
-  pub fit : All Fit (net_lines graph)
+  pub fit : AllByRecursion Fit (net_lines graph)
   pub told : outline ≡ outline_of graph
 
 -- some graph's lines begin with these
@@ -120,7 +120,7 @@ pub record Refused (text : List ℕ) (e : TextFault) : Type 0 where
   pub whole : text ≡ flat_map written before ++ rest
   pub place : e.line ≡ length before + 1
   pub begins : Begins before
-  pub fit : All Fit before
+  pub fit : AllByRecursion Fit before
   pub breaks : Breaks before rest e.fault
 
 abbrev pub Told : List ℕ → Result Outline TextFault → Type 0

@@ -1,5 +1,7 @@
 // Reads a net text: the shape of its numbers and lines, and the place and the number due of each line.
 // It answers the outline of a text that follows the rules, or the first line that breaks one and the reason.
+#![tactic(auto)]
+
 mod faults;
 mod lines;
 mod numbers;

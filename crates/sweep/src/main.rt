@@ -1,11 +1,14 @@
 // Checks a net text from standard input and prints its outline, or the number and the line of its refusal.
 // The rules for texts are in the library netlist; here is what is read, printed and told to the shell.
+#![tactic(auto)]
+
 ghost use Rattle.std.specs.Prelude.{◌≡◌};
 ghost use Rattle.sweep.specs.Judging.{refusal_of, judged};
 
 use netlist::{Outline, TextFault};
 use std::io;
 use std::io::Read;
+use std::process::ExitCode;
 
 // The longest input that is taken, and the number of the refusal of a longer one.
 const MOST: usize = 16384;
@@ -75,14 +78,22 @@ fn print_refusal(rt: &HostRuntime, refusal: Refusal) -> io::Result<()> {
     println!(rt; "line={}", refusal.line)
 }
 
-fn main(rt: HostRuntime) -> Result<(), Failure> {
-    let text = read_input(&rt)?;
+fn run(rt: &HostRuntime) -> Result<(), Failure> {
+    let text = read_input(rt)?;
     match judge(&text) {
-        Ok(outline) => Ok(print_outline(&rt, outline)?),
+        Ok(outline) => Ok(print_outline(rt, outline)?),
         Err(refusal) => {
-            print_refusal(&rt, refusal)?;
+            print_refusal(rt, refusal)?;
             Err(Failure::Refused)
         }
+    }
+}
+
+// Writes nothing to standard error, whatever the failure.
+fn main(rt: HostRuntime) -> ExitCode {
+    match run(&rt) {
+        Ok(()) => ExitCode::SUCCESS,
+        Err(_) => ExitCode::FAILURE,
     }
 }
 

@@ -6,7 +6,7 @@ use Rattle.netlist.proofs.reader.read_lines.Goals as goal
 
 pub returns-in_err-at_line : goal.returns-in_err-at_line
 returns-in_err-at_line c =
-    let p = err_from_is_err_and c.from-residual.result c.from-residual.ensures.1 in
+    let p = err_from_is_err_and c.from_residual.result c.from_residual.ensures.1 in
     let f = step-fault c.loop-before.line c.loop-before.reader c.in-Some.field-0.before.now c.take_line.result c.take_line.new.self c.in_err-at_line.field-0.0 c.take_line.ensures (sym c.at_line.ensures ∙ c.in_err-at_line.was) in
     let stop = on_fault c.loop-before.line c.loop-before.reader c.loop-before.rest.now _ _ c.in-Some.ensures f.0 f.1 in
     p.1 ∙ ap (λ e. Err e) (p.2 ∙ sym f.2) ∙ sym stop ∙ c.loop-before.invariant.0
