@@ -1,7 +1,7 @@
 -- Three candidates offered to two places. Assumes nothing.
 use Rattle.std.proofs.Common.{◌≡◌, ℕ, ◌≤◌, Bool, List, [], ◌∷◌, length, take, drop, sym, ap, ◌∙◌, arith, length-drop}
 use Rattle.std.proofs.lemmas.List.{take_all}
-use Rattle.model.specs.Rankings.{rank_in, ranked, first_by}
+use Rattle.model.specs.Rankings.{rank_in, first_by}
 use Rattle.model.proofs.Ranks.{ranked-none, keep_more}
 
 pub offered_three : {A : Type 0} (B : A → A → Bool) (x y z : A) (one two all : List A)

@@ -1,5 +1,7 @@
 // Rankings of a buyer's own, written outside the crate of rankings, and choices made with them.
 // One puts the lowest highest leaf first; one ranks nothing before anything.
+#![tactic(auto)]
+
 mod first;
 mod flat;
 mod highest;

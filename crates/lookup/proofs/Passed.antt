@@ -1,12 +1,12 @@
 -- What the end of a search says of the slots that it passed.
-use Rattle.std.proofs.Common.{◌≡◌, ℕ, zero, suc, ◌+◌, ◌-◌, ◌<◌, ◌≤◌, Bool, true, false, cond, ◌⊎◌, List, [], ◌∷◌, length, get_or, sym, refl, ap, ◌∙◌, subst, inl, inr, arith}
+use Rattle.std.proofs.Common.{◌≡◌, ℕ, zero, suc, ◌+◌, ◌-◌, ◌<◌, ◌≤◌, Bool, true, false, cond, List, length, get_or, sym, refl, ap, ◌∙◌, inl, inr, arith}
 use Rattle.std.proofs.lemmas.Bool.{cases_eq, cases_lt, lt-ltb, le-ltb}
 use Rattle.model.specs.Keys.{eq_list}
 use Rattle.lookup.specs.declared.slot.Slot.{Slot}
 use Rattle.lookup.specs.declared.slot.Slot.TheVariants.{Free, Taken}
 use Rattle.lookup.specs.declared.slot.Place.{Place}
-use Rattle.lookup.specs.declared.slot.Place.TheVariants.{Found, Open, Nowhere}
-use Rattle.lookup.specs.Slots.{probed_from, probed, after, judged, Inside}
+use Rattle.lookup.specs.declared.slot.Place.TheVariants.{Found, Nowhere}
+use Rattle.lookup.specs.Slots.{probed_from, after, judged, Inside}
 
 pub after_in : (n i : ℕ) → i + 1 < n → after n i ≡ i + 1
 after_in n i h = ap (λ t. cond t (i + 1) 0) (lt-ltb (i + 1) n h)

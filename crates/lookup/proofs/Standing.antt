@@ -1,18 +1,16 @@
 -- How many slots are taken, what entering answers by that, and what the slots stand for afterwards.
-use Rattle.std.proofs.Common.{◌≡◌, ℕ, zero, suc, ◌+◌, ◌-◌, ◌<◌, ◌≤◌, Bool, true, false, cond, List, [], ◌∷◌, length, get_or, set, replicate, Some, None, Option, sym, refl, ap, ◌∙◌, arith, length-set}
-use lib.ListN.{length-replicate}
+use Rattle.std.proofs.Common.{◌≡◌, ℕ, zero, suc, ◌+◌, ◌<◌, ◌≤◌, cond, List, [], ◌∷◌, length, get_or, set, replicate, Some, None, Option, sym, refl, ap, ◌∙◌, arith, length-set}
 use Rattle.std.proofs.lemmas.Bool.{lt-ltb, le-ltb}
 use Rattle.std.specs.Option.{option_to_list}
-use Rattle.model.specs.Keys.{eq_list, first_of}
+use Rattle.model.specs.Keys.{eq_list}
 use Rattle.model.proofs.Keys.{first-none, first_one}
 use Rattle.lookup.specs.declared.slot.Slot.{Slot}
 use Rattle.lookup.specs.declared.slot.Slot.TheVariants.{Free, Taken}
 use Rattle.lookup.specs.declared.slot.Place.{Place}
 use Rattle.lookup.specs.declared.slot.Place.TheVariants.{Found, Open, Nowhere}
-use Rattle.lookup.specs.declared.slot.Entered.{Entered}
-use Rattle.lookup.specs.declared.slot.Entered.TheVariants.{New, AlreadyThere, Full}
-use Rattle.lookup.specs.Slots.{probed_from, probed, found, value_at, slots_after, answer_at, Inside}
-use Rattle.lookup.specs.Entries.{own, Tidy, taken_by, taken, answer_for, with_entry, Stands, Entry, entered, Holds, entries_after}
+use Rattle.lookup.specs.declared.slot.Entered.TheVariants.{New, Full}
+use Rattle.lookup.specs.Slots.{probed, found, value_at, slots_after, answer_at, Inside}
+use Rattle.lookup.specs.Entries.{Tidy, taken_by, taken, answer_for, with_entry, Stands, Entry, entered, Holds, entries_after}
 use Rattle.lookup.proofs.Probed.{probe_none, probe_free}
 use Rattle.lookup.proofs.Passed.{inside-from, none_free}
 use Rattle.lookup.proofs.Entering.{was_open, open_tidy, open_gives}

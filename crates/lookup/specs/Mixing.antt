@@ -1,9 +1,8 @@
 -- A hash stays below 2^64, so the slot that it names is one of the slots.
-use Rattle.std.specs.Prelude.{◌≡◌, ℕ, ◌*◌, ◌%◌, ◌^◌, ◌<◌, List, [], ◌∷◌, refl}
-use Rattle.std.proofs.Common.{ap, ◌∙◌, mul_comm, mul-lt-mul_of_pos_right, arith}
-use Rattle.std.specs.Int.Bits.{bit_xor}
-use Rattle.std.proofs.lemmas.Nat.{div_below, mod_below}
-use Rattle.lookup.specs.Hash.{mixed, mixed_all, slot_of, hashed_slot}
+use Rattle.std.specs.Prelude.{◌≡◌, ℕ, ◌*◌, ◌^◌, ◌<◌, List, [], ◌∷◌}
+use Rattle.std.proofs.Common.{mul_comm, mul-lt-mul_of_pos_right, arith}
+use Rattle.std.proofs.lemmas.Nat.{div_below}
+use Rattle.lookup.specs.Hash.{mixed, mixed_all, hashed_slot}
 
 mixed_small : (h x : ℕ) → mixed h x < 2 ^ 64
 mixed_small h x = omega arith

@@ -1,6 +1,6 @@
 -- Slot tables: the search for a meaning, what entering does, and which keys the slots stand for.
-use Rattle.std.specs.Prelude.{◌≡◌, ℕ, zero, suc, ◌+◌, ◌<◌, Bool, true, false, cond, List, [], ◌∷◌, length, Some, None, Option, nat_lt, slice_index_or, slice_set}
-use Rattle.model.specs.Keys.{eq_list, first_of}
+use Rattle.std.specs.Prelude.{ℕ, zero, suc, ◌+◌, ◌<◌, cond, List, length, Some, None, Option, nat_lt, slice_index_or, slice_set}
+use Rattle.model.specs.Keys.{eq_list}
 use Rattle.lookup.specs.declared.slot.Slot.{Slot}
 use Rattle.lookup.specs.declared.slot.Slot.TheVariants.{Free, Taken}
 use Rattle.lookup.specs.declared.slot.Place.{Place}

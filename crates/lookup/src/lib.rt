@@ -1,5 +1,7 @@
 // Look-ups by key: the key traits, a slot table over a lent slice, and a list without repeated keys.
 // Fanin pairs are the one kind of key that lives here; other crates bring their own.
+#![tactic(auto)]
+
 mod distinct;
 mod fanin_pair;
 mod hash;

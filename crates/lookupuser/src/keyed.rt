@@ -1,7 +1,7 @@
 ghost use Rattle.lookup.specs.Hash.{hashed_slot};
 ghost use Rattle.lookupuser.specs.Leaves.{leaf_meaning};
 ghost use Rattle.lookup.specs.Mixing.{slot_within};
-ghost use Rattle.std.proofs.Common.{rules, arith};
+ghost use Rattle.std.proofs.Common.{rules};
 
 use crate::leaf_key::LeafKey;
 use lookup::{HashedKey, Key, mix, mix_all, slot_of};
@@ -19,7 +19,7 @@ impl HashedKey for LeafKey {
 
     ghost within = { λ m n h. slot_within m n h };
 
-    ghost none = { first_of (Prim.search rules, Prim.grind (arith, Self.row.coded.inj)) };
+    ghost none = { Prim.search rules };
 
     fn first_slot(&self, slots: usize) -> usize {
         slot_of(mix_all(mix(0, self.table), self.leaves()), slots)

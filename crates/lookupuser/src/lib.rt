@@ -1,5 +1,7 @@
 // A key type of another crate in the slot table: five numbers with a count.
 // It shows what an implementer writes, and which facts a struct that owns a table can keep.
+#![tactic(auto)]
+
 mod keyed;
 mod known;
 mod leaf_key;

@@ -1,5 +1,5 @@
 -- Uniting adds nothing exactly where all leaves are there already.
-use Rattle.std.proofs.Common.{◌≡◌, ℕ, true, false, ◌⊎◌, List, ◌∙◌, subst, ⊎_elim}
+use Rattle.std.proofs.Common.{◌≡◌, ℕ, true, false, List, ◌∙◌, subst, ⊎_elim}
 use Rattle.std.proofs.lemmas.Bool.{cases_Bool}
 use Rattle.model.specs.Leaves.{Rising, Within, has, place, unite}
 use Rattle.model.proofs.Places.{place_in}

@@ -5,7 +5,7 @@ use Rattle.std.proofs.lemmas.Bool.{eq-eqb, eqb-true, eqb-false, leb-true, cases_
 use Rattle.model.specs.Tables.{number, flip_if, bit_at, row, put, complemented}
 use Rattle.model.specs.Leaves.{unite}
 use Rattle.model.specs.Cuts.{Cut, value_of, Formed, join, joined, trivial, key_sign, key_of, key_list}
-use Rattle.model.specs.Keys.{eq_list, first_of, holds}
+use Rattle.model.specs.Keys.{eq_list, first_of}
 use Rattle.model.specs.Edges.{node_of, sign_of, edge, signed}
 use Rattle.model.specs.Graphs.{Node, input, gate, Graph, at, bits, value, edge_value, Ordered, or_else, find_pair, find_key, cuts_of}
 use Rattle.model.specs.Rankings.{Every, Before}

@@ -1,5 +1,5 @@
 -- Tables of well-formed cuts: squeezed ones depend on each leaf, complements look where the table looks, and a table that looks nowhere is constant.
-use Rattle.std.proofs.Common.{◌≡◌, ℕ, suc, ◌+◌, ◌-◌, ◌^◌, ◌<◌, ◌≤◌, Bool, true, false, cond, not, List, [], ◌∷◌, length, get_or, take, sym, refl, ap, ◌∙◌, subst, inr, ⊎_elim, add-zero, zero-add, arith, length-take-le, pow_pos}
+use Rattle.std.proofs.Common.{◌≡◌, ℕ, suc, ◌+◌, ◌^◌, ◌<◌, ◌≤◌, Bool, true, false, cond, not, List, [], ◌∷◌, length, get_or, take, sym, refl, ap, ◌∙◌, subst, inr, ⊎_elim, add-zero, zero-add, arith, length-take-le, pow_pos}
 use lib.Pow.{ones_sub-lt}
 use Rattle.std.proofs.lemmas.Bool.{cases_Bool, both_ways, eq-eqb}
 use Rattle.model.specs.Cuts.{needed, squeeze, tabulate, value_of}

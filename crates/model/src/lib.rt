@@ -1,5 +1,7 @@
 // What the sweeper means, as definitions that compute, and the theorems about them.
 // There is nearly no code here: each function carries one theorem in its contract.
+#![tactic(auto)]
+
 ghost use Rattle.model.specs.CutLaws.{TablesReadBack, MeaningsTabulate, StretchingKeepsMeaning, SqueezingKeepsWhatMatters, JoiningIsAnd, JoinedWords, OneMeaningOneCut, TrivialCutIsItsNode, ComplementsShareAKey};
 ghost use Rattle.model.specs.ChoiceLaws.{ChoosingKeepsTheFirst};
 ghost use Rattle.model.specs.GraphLaws.{GrowingChangesNothingEarlier, CutsStay, CapacityIsLargest};

@@ -1,5 +1,7 @@
 // Signals: the kinds of values that a graph can be evaluated on, lane by lane.
 // The trait says what FALSE, AND and complement do in each lane; three kinds keep it.
+#![tactic(auto)]
+
 mod edge;
 mod kinds;
 mod rail;

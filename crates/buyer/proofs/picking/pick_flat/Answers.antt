@@ -1,6 +1,5 @@
 use Rattle.std.proofs.Common.{◌≡◌, [], ◌∷◌}
-use Rattle.model.specs.Rankings.{ranked, rank_in, by_nothing}
-use Rattle.buyer.specs.Picks.{first_of_three}
+use Rattle.model.specs.Rankings.{ranked, rank_in}
 use Rattle.buyer.proofs.picking.pick_flat.Goals as goal
 
 pub returns : goal.returns

@@ -1,4 +1,4 @@
-use Rattle.std.proofs.Common.{◌≡◌, ℕ, [], ◌∷◌, length, take, drop, sym, ap, ◌∙◌, arith, rules}
+use Rattle.std.proofs.Common.{◌≡◌, ℕ, [], length, take, drop, sym, ap, ◌∙◌, arith, rules}
 use Rattle.model.specs.Rankings.{rank_in, first_by}
 use Rattle.rankings.specs.declared.candidate.Candidate.{Candidate}
 use Rattle.rankings.specs.Candidates.{by_facts}

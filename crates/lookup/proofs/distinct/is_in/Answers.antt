@@ -1,4 +1,4 @@
-use Rattle.std.proofs.Common.{true, false, sym, ◌∙◌}
+use Rattle.std.proofs.Common.{false, sym, ◌∙◌}
 use Rattle.model.proofs.Keys.{same-is, first_hit, first_pass, first-all}
 use Rattle.lookup.proofs.distinct.is_in.Goals as goal
 

@@ -1,6 +1,6 @@
-use Rattle.std.proofs.Common.{◌≡◌, ◌+◌, get_or, drop, sym, ap, ◌∙◌}
+use Rattle.std.proofs.Common.{◌+◌, drop, sym, ap, ◌∙◌}
 use Rattle.std.proofs.lemmas.List.{at_drop_more, at_drop_all}
-use Rattle.lookup.specs.Hash.{mixed, mixed_all}
+use Rattle.lookup.specs.Hash.{mixed_all}
 use Rattle.lookup.proofs.hash.mix_all.Goals as goal
 
 pub loop-number-preserved : goal.loop-number-preserved

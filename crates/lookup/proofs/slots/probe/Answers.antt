@@ -1,7 +1,6 @@
-use Rattle.std.proofs.Common.{◌≡◌, ℕ, suc, ◌+◌, ◌-◌, ◌<◌, ◌≤◌, Bool, true, false, T, ltb, List, length, get_or, sym, refl, ap, ◌∙◌, arith, rules, le-ltb, lt-ltb}
+use Rattle.std.proofs.Common.{◌≡◌, ℕ, suc, ◌+◌, ◌-◌, ◌<◌, ◌≤◌, length, sym, ap, ◌∙◌, arith, le-ltb, lt-ltb}
 use borrow.Author.Rules.{get_or_read}
-use Rattle.lookup.specs.declared.slot.Slot.{Slot}
-use Rattle.lookup.specs.declared.slot.Slot.TheVariants.{Free, Taken}
+use Rattle.lookup.specs.declared.slot.Slot.TheVariants.{Free}
 use Rattle.lookup.specs.Slots.{probed_from, after}
 use Rattle.model.proofs.Keys.{same-is}
 use Rattle.lookup.proofs.Probed.{probe_none, probe_free, probe_found, probe_on}

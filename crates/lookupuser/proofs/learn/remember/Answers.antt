@@ -1,4 +1,4 @@
-use Rattle.std.proofs.Common.{◌≡◌, ◌<◌, cond, length, Some, None, refl, ap, ◌∙◌, arith}
+use Rattle.std.proofs.Common.{cond, length, Some, None, refl, ap, ◌∙◌, arith}
 use lib.ListN.{length-replicate}
 use Rattle.lookup.specs.declared.slot.Slot.TheVariants.{Free}
 use Rattle.model.proofs.Keys.{same_refl}

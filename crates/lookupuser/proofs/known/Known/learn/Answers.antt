@@ -14,7 +14,7 @@ invariant_of-self c =
     let s : Stands leaf_meaning hashed_slot xs look k.count = record { tidy = k.tidy; gives = λ q. refl; count = k.counted } in
     let left : k.count < length xs = omega arith in
     let new = c.enter.ensures.new look k.count s (sym c.in-None.ensures.exact) left in
-    (new.1.tidy, (new.1.count, (omega (arith, c.enter.ensures.room), tt)))
+    record { tidy = new.1.tidy; counted = new.1.count; room = omega (arith, c.enter.ensures.room) }
 
 pub returns : goal.returns
 returns c =
