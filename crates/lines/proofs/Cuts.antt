@@ -1,6 +1,6 @@
 -- where the first mark stands
 use Rattle.std.proofs.Common.{◌≡◌, ℕ, zero, suc, ◌+◌, ◌<◌, Bool, true, false, cond, eqb, List, [], ◌∷◌, ◌++◌, length, get_or, take, drop, Some, None, Option, sym, refl, ap, ◌∙◌, add-one, arith, eq-eqb, ne_eqb}
-use Rattle.std.specs.List.{AllByRecursion as All}
+use Rattle.std.specs.List.{AllByRecursion}
 use Rattle.std.proofs.lemmas.Bool.{eqb-true, eqb-false}
 use Rattle.lines.specs.Shape.{cut_at, in_front}
 
@@ -21,7 +21,7 @@ cut-here mark (x ∷ xs) (suc i) h no-mark here =
 
 -- no byte is the mark
 abbrev pub Lacks : ℕ → List ℕ → Type 0
-Lacks mark bs = All (λ c. c ≡ mark → ⊥) bs
+Lacks mark bs = AllByRecursion (λ c. c ≡ mark → ⊥) bs
 
 pub cut-found : (mark : ℕ) (b a : List ℕ) → Lacks mark b → cut_at mark (b ++ mark ∷ a) ≡ Some (b, a)
 cut-found mark [] a lacks = ap (λ t. cond t (Some ([], a)) (in_front mark (cut_at mark a))) (eq-eqb mark mark refl)

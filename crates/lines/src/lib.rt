@@ -1,4 +1,6 @@
 // Reads one line of a net text from its bytes: its key and its numbers.
+#![tactic(auto)]
+
 mod faults;
 mod lines;
 mod numbers;
