@@ -19,7 +19,7 @@ use Rattle.reading.specs.Net.{net_lines, Accepted, Follows, Next, NoShape, NoEnd
 use Rattle.reading.specs.Reading.{leads_to, numbers_due, called, unless_declined, taken, Point, onwards, after_line, step_with, ended_at, at_line, Read, go_on, read_rest, read_text}
 use Rattle.reading.proofs.Law.{spot_of, call_moves}
 use Rattle.reading.proofs.Onward.{rest-step, rest-done}
-use Rattle.reading.proofs.Order.{Spot, at, moved, InOrder, due-parts, due-from, due_in_order, Passes, passes-front, begun, end_of, pass_net, begins-order, Partial, start, step_partial, partial-begins, ended-graph, passes-partial}
+use Rattle.reading.proofs.Order.{Spot, at, InOrder, due-parts, due-from, due_in_order, Passes, passes-front, begun, end_of, pass_net, begins-order, Partial, start, step_partial, partial-begins, ended-graph, passes-partial}
 
 fit-short : (l : Line) → Fit l → Short l
 fit-short (Net n) h = omega arith

@@ -18,7 +18,7 @@ use Rattle.reading.specs.declared.reader.Place.TheVariants.{Start, Nodes, Outs, 
 use Rattle.reading.specs.Faults.{Fault, broken, declined}
 use Rattle.reading.specs.Net.{Accepted, Follows, Next, Breaks, Refused, Told}
 use Rattle.reading.specs.Reading.{leads_to, numbers_due, called, unless_declined, Point, onwards, step_with, ended_at, finished, at_line, Lines, longer, lines_of, Read, go_on, read_lines, read_text}
-use Rattle.reading.proofs.Growth.{counts, called_adds}
+use Rattle.reading.proofs.Growth.{called_adds}
 use Rattle.reading.proofs.Order.{Spot, at, moved, InOrder, due-parts, due-from, due_in_order, Passes, passes-push, begun, begins-order, whole_ends, Partial, start, step_partial, partial-begins, ended-graph}
 
 abbrev ended10 : List ℕ → List ℕ
