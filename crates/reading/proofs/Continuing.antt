@@ -1,5 +1,5 @@
 -- the calls of lines that are accepted continue every run
-use Rattle.std.proofs.Common.{◌≡◌, ℕ, List, [], ◌∷◌, ◌++◌, map, reverse, Ok, Err, sym, refl, ap, ◌∙◌, subst, arith}
+use Rattle.std.proofs.Common.{◌≡◌, ℕ, List, [], ◌∷◌, ◌++◌, map, reverse, Ok, sym, refl, ap, ◌∙◌, subst}
 use mathlib.Core.List.{reverse-cons}
 use Rattle.std.proofs.lemmas.List.{append_assoc, map_push}
 use Rattle.model.specs.Rankings.{Before, Ranking}

@@ -1,6 +1,6 @@
 -- a text that follows the rules, or is refused by them, is answered so
 use Rattle.std.proofs.Common.{◌≡◌, ℕ, ◌+◌, Bool, true, false, cond, List, [], ◌∷◌, ◌++◌, length, Some, None, Ok, Err, Option, Result, sym, refl, ap, ◌∙◌, subst, inl, inr, arith}
-use Rattle.std.specs.List.{flat_map, AllByRecursion as All}
+use Rattle.std.specs.List.{flat_map, AllByRecursion}
 use Rattle.std.proofs.lemmas.List.{append_assoc, append-nil}
 use Rattle.model.specs.Rankings.{Before}
 use Rattle.model.specs.Sessions.{State}
@@ -19,7 +19,7 @@ use Rattle.reading.specs.Net.{net_lines, Accepted, Follows, Next, NoShape, NoEnd
 use Rattle.reading.specs.Reading.{leads_to, numbers_due, called, unless_declined, taken, Point, onwards, after_line, step_with, ended_at, at_line, Read, go_on, read_rest, read_text}
 use Rattle.reading.proofs.Law.{spot_of, call_moves}
 use Rattle.reading.proofs.Onward.{rest-step, rest-done}
-use Rattle.reading.proofs.Order.{Spot, at, moved, InOrder, due-parts, due-from, due_in_order, Passes, passes-front, begun, end_of, pass_net, begins-order, Partial, start, step_partial, partial-begins, ended-graph, passes-partial}
+use Rattle.reading.proofs.Order.{Spot, at, InOrder, due-parts, due-from, due_in_order, Passes, passes-front, begun, end_of, pass_net, begins-order, Partial, start, step_partial, partial-begins, ended-graph, passes-partial}
 
 fit-short : (l : Line) → Fit l → Short l
 fit-short (Net n) h = omega arith
@@ -44,7 +44,7 @@ module _ (before : Before) where
       ∙ ap (λ b. go_on k p.state (onwards (Some o.place) (cond b (unless_declined (called before p.state l)) (Err (broken fault.Number)))) (λ q. read_rest before (k + 1) q after)) (due-from (length p.state.source) l fit o.due)
 
   -- lines in order, whose numbers are small enough and whose calls are accepted, are read
-  pub read_on : (ls : List Line) (after : List ℕ) (p : Point) (t : Spot) (u : State) (k : ℕ) → Passes (spot_of p) ls t → Accepted before p.state ls u → All Fit ls
+  pub read_on : (ls : List Line) (after : List ℕ) (p : Point) (t : Spot) (u : State) (k : ℕ) → Passes (spot_of p) ls t → Accepted before p.state ls u → AllByRecursion Fit ls
       → read_rest before k p (flat_map written ls ++ after) ≡ read_rest before (k + length ls) (record { place = t.place; state = u }) after
   read_on [] after p t u k passes calls fit = (λ i. read_rest before ((let z : k ≡ k + 0 = omega arith in z) i) (record { place = (passes i).place; state = calls i }) after)
   read_on (l ∷ ls) after p t u k passes calls fit =

@@ -1,6 +1,6 @@
 -- reading takes just the text of a net whose calls are accepted, and otherwise tells the first line that is refused
 use Rattle.std.proofs.Common.{◌≡◌, ℕ, ◌+◌, Bool, true, false, cond, eqb, List, [], ◌∷◌, ◌++◌, length, Some, None, Ok, Err, Option, Result, sym, refl, ap, ◌∙◌, subst, inl, inr, arith}
-use Rattle.std.specs.List.{flat_map, AllByRecursion as All}
+use Rattle.std.specs.List.{flat_map, AllByRecursion}
 use Rattle.std.proofs.ByRecursion.{All-push}
 use Rattle.std.proofs.lemmas.List.{append_assoc, append-nil, length_push, flat_map_more}
 use Rattle.std.proofs.lemmas.Bool.{eqb-true, eqb-false}
@@ -18,7 +18,7 @@ use Rattle.reading.specs.declared.reader.Place.TheVariants.{Start, Nodes, Outs, 
 use Rattle.reading.specs.Faults.{Fault, broken, declined}
 use Rattle.reading.specs.Net.{Accepted, Follows, Next, Breaks, Refused, Told}
 use Rattle.reading.specs.Reading.{leads_to, numbers_due, called, unless_declined, Point, onwards, step_with, ended_at, finished, at_line, Lines, longer, lines_of, Read, go_on, read_lines, read_text}
-use Rattle.reading.proofs.Growth.{counts, called_adds}
+use Rattle.reading.proofs.Growth.{called_adds}
 use Rattle.reading.proofs.Order.{Spot, at, moved, InOrder, due-parts, due-from, due_in_order, Passes, passes-push, begun, begins-order, whole_ends, Partial, start, step_partial, partial-begins, ended-graph}
 
 abbrev ended10 : List ℕ → List ℕ
@@ -27,7 +27,7 @@ ended10 l = l ++ 10 ∷ []
 -- the lines of a text put together again
 pub record Cutting (text : List ℕ) (c : Lines) : Type 0 where
   pub whole : text ≡ flat_map ended10 c.ended ++ c.rest
-  pub each : All (Lacks 10) c.ended
+  pub each : AllByRecursion (Lacks 10) c.ended
   pub last : Lacks 10 c.rest
 
 cutting-longer : (c : ℕ) (cs : List ℕ) (ls : List (List ℕ)) (rest : List ℕ) → (c ≡ 10 → ⊥) → Cutting cs (record { ended = ls; rest = rest }) → Cutting (c ∷ cs) (longer c ls rest)
@@ -81,7 +81,7 @@ module _ (before : Before) (s : State) (text : List ℕ) where
     pub whole : text ≡ flat_map written lines ++ left
     pub partial : Partial base lines (spot_of p)
     pub passed : Passes (begun base) lines (spot_of p)
-    pub fit : All Fit lines
+    pub fit : AllByRecursion Fit lines
     pub calls : Accepted before s lines p.state
 
   abbrev Tells : Read → Type 0
@@ -102,7 +102,7 @@ module _ (before : Before) (s : State) (text : List ℕ) where
         record {
           graph = g.0;
           whole = h.whole ∙ append-nil (flat_map written lines) ∙ ap (flat_map written) g.1;
-          fit = subst (All Fit) g.1 h.fit;
+          fit = subst (AllByRecursion Fit) g.1 h.fit;
           calls = subst (λ ls. Accepted before s ls p.state) g.1 h.calls;
         }
 
@@ -201,7 +201,7 @@ module _ (before : Before) (s : State) (text : List ℕ) where
     tell_read (Ok l) is next = tell-line l is (next l) (leads_to p.place (kind_of l)) refl
     tell_read (Err d) is next = tell_shape d is
 
-  tell : (ls : List (List ℕ)) (rest : List ℕ) (lines : List Line) (p : Point) (k : ℕ) → All (Lacks 10) ls → Lacks 10 rest → k ≡ length lines + 1 → Sofar lines p (flat_map ended10 ls ++ rest) → Tells (read_lines before k p ls rest)
+  tell : (ls : List (List ℕ)) (rest : List ℕ) (lines : List Line) (p : Point) (k : ℕ) → AllByRecursion (Lacks 10) ls → Lacks 10 rest → k ≡ length lines + 1 → Sofar lines p (flat_map ended10 ls ++ rest) → Tells (read_lines before k p ls rest)
   unfolding read_lines
   tell [] rest lines p k each last e h = tell-rest lines p k e rest last h
   tell (l ∷ ls) rest lines p k each last e h =

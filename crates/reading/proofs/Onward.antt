@@ -1,5 +1,5 @@
 -- the steps of reading on
-use Rattle.std.proofs.Common.{◌≡◌, ℕ, ◌+◌, Bool, true, false, cond, List, [], ◌∷◌, ◌++◌, length, Some, None, Ok, Err, Option, Result, sym, refl, ap, ◌∙◌, subst, arith, length-append, ne_eqb}
+use Rattle.std.proofs.Common.{◌≡◌, ℕ, ◌+◌, Bool, true, false, cond, List, [], ◌∷◌, ◌++◌, length, Some, None, Ok, Err, Option, Result, refl, ap, ◌∙◌, subst, arith, length-append, ne_eqb}
 use Rattle.model.specs.Rankings.{Before}
 use Rattle.model.specs.Sessions.{State, Refusal}
 use Rattle.lines.specs.declared.lines.Line.{Line}
@@ -11,7 +11,7 @@ use Rattle.reading.specs.declared.faults.ReadFault.{ReadFault}
 use Rattle.reading.specs.declared.faults.TextFault.{TextFault}
 use Rattle.reading.specs.declared.reader.Place.{Place}
 use Rattle.reading.specs.Faults.{Fault, broken, fault_in, faulted, stop_in, answer_in}
-use Rattle.reading.specs.Reading.{leads_to, numbers_due, called, unless_declined, Point, onwards, step_with, step_line, Becomes, Lines, lines_of, longer, Read, go_on, read_lines, read_rest, finished, at_line}
+use Rattle.reading.specs.Reading.{leads_to, numbers_due, called, unless_declined, Point, onwards, step_with, step_line, Becomes, Lines, lines_of, longer, go_on, read_lines, read_rest, finished, at_line}
 use Rattle.reading.proofs.Growth.{Longer, longer-same, longer_by, called_adds}
 
 pub lines-first : (b a : List ℕ) → Lacks 10 b → lines_of (b ++ 10 ∷ a) ≡ record { ended = b ∷ (lines_of a).ended; rest = (lines_of a).rest }

@@ -1,6 +1,6 @@
 -- which texts are nets that a session takes, and where another text goes wrong
 use Rattle.std.specs.Prelude.{◌≡◌, ℕ, ◌+◌, ◌⊎◌, List, [], ◌∷◌, ◌++◌, map, length, Ok, Err, Result, MatchResult, ◌≢◌}
-use Rattle.std.specs.List.{flat_map, AllByRecursion as All}
+use Rattle.std.specs.List.{flat_map, AllByRecursion}
 use Rattle.model.specs.Graphs.{Node, input, gate}
 use Rattle.model.specs.Rankings.{Before}
 use Rattle.model.specs.Sessions.{State}
@@ -42,7 +42,7 @@ Accepted before s (l ∷ ls) u = (t : State) × (called before s l ≡ Ok t) × 
 pub record Follows (before : Before) (s : State) (text : List ℕ) (u : State) : Type 0 where
   pub graph : Graph
   pub whole : text ≡ flat_map written (net_lines (length s.source) graph)
-  pub fit : All Fit (net_lines (length s.source) graph)
+  pub fit : AllByRecursion Fit (net_lines (length s.source) graph)
   pub calls : Accepted before s (net_lines (length s.source) graph) u
 
 -- what is left of a text begins with this line
@@ -81,7 +81,7 @@ pub record Refused (before : Before) (s : State) (text : List ℕ) (e : Stop) (u
   pub whole : text ≡ flat_map written lines ++ rest
   pub place : e.line ≡ length lines + 1
   pub begins : Begins (length s.source) lines
-  pub fit : All Fit lines
+  pub fit : AllByRecursion Fit lines
   pub calls : Accepted before s lines u
   pub breaks : Breaks before (length s.source) u lines rest e.fault
 

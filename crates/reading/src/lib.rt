@@ -1,4 +1,6 @@
 // Reads a net text into a session: each line in its place makes its call, up to the first line that is refused.
+#![tactic(auto)]
+
 mod faults;
 mod reader;
 

@@ -6,7 +6,7 @@ use Rattle.sweeper.specs.States.{state_in, image_in}
 use Rattle.sweeper.proofs.Gated.{same_rest}
 use Rattle.reading.specs.declared.faults.TextFault.{TextFault}
 use Rattle.reading.specs.Faults.{answer_in}
-use Rattle.reading.specs.Reading.{Read, at_line, point_in}
+use Rattle.reading.specs.Reading.{at_line, point_in}
 use Rattle.reading.specs.Calls.{RunsOn}
 use Rattle.reading.proofs.Growth.{rest-joined}
 use Rattle.reading.proofs.Onward.{cut-length, on_line, on_fault, on_rest, step-stops, step_went, step-longer}
