@@ -1,6 +1,6 @@
 -- What the answers of a session's calls are in the model.
 use Rattle.std.specs.Prelude.{ℕ, ◌<◌, Bool, Some, None, Ok, Err, Option, Result}
-use Rattle.model.specs.Sessions.{Answer, node, mapped_edge, refused, no_node, at_capacity, no_output_row}
+use Rattle.model.specs.Sessions.{Answer, node, mapped_edge, refused, no_node, at_capacity, no_output_row, wrong_signals, too_short, above_cap}
 use Rattle.model.specs.Sessions as model
 use Rattle.cuts.specs.declared.edge.Edge.{Edge}
 use Rattle.model.specs.Rankings.{Before, Lawful}
@@ -12,12 +12,15 @@ use Rattle.search.specs.declared.decision.Existing.TheVariants.{Folded, Merged}
 use Rattle.sweeper.specs.declared.accepting.Swept.{Swept}
 use Rattle.sweeper.specs.Tallies.{outcome_in}
 use Rattle.sweeper.specs.declared.refusal.Refusal.{Refusal}
-use Rattle.sweeper.specs.declared.refusal.Refusal.TheVariants.{NoNode, AtCapacity, NoOutputRow}
+use Rattle.sweeper.specs.declared.refusal.Refusal.TheVariants.{NoNode, AtCapacity, NoOutputRow, WrongSignals, TooShort, AboveCap}
 
 abbrev pub refusal_in : Refusal → model.Refusal
 refusal_in (NoNode which) = no_node which
 refusal_in (AtCapacity most) = at_capacity most
 refusal_in (NoOutputRow rows) = no_output_row rows
+refusal_in (WrongSignals inputs) = wrong_signals inputs
+refusal_in (TooShort wanted) = too_short wanted
+refusal_in (AboveCap cap) = above_cap cap
 
 abbrev pub told_node : Result ℕ Refusal → Answer
 told_node (Ok n) = node n

@@ -11,6 +11,12 @@ pub enum Refusal {
     AtCapacity(usize),
     // All of this many output rows are used.
     NoOutputRow(usize),
+    // The signals do not number the inputs, of which there are this many.
+    WrongSignals(usize),
+    // The results, the marks or the rest of the page are shorter than this.
+    TooShort(usize),
+    // The cone has more gates than this cap.
+    AboveCap(usize),
 }
 
 impl Refusal {
@@ -22,6 +28,9 @@ impl Refusal {
             Refusal::NoNode(_) => 1,
             Refusal::AtCapacity(_) => 2,
             Refusal::NoOutputRow(_) => 3,
+            Refusal::WrongSignals(_) => 4,
+            Refusal::TooShort(_) => 5,
+            Refusal::AboveCap(_) => 6,
         }
     }
 
@@ -33,6 +42,9 @@ impl Refusal {
             Refusal::NoNode(which) => which,
             Refusal::AtCapacity(capacity) => capacity,
             Refusal::NoOutputRow(rows) => rows,
+            Refusal::WrongSignals(inputs) => inputs,
+            Refusal::TooShort(wanted) => wanted,
+            Refusal::AboveCap(cap) => cap,
         }
     }
 }
