@@ -1,4 +1,6 @@
 // Lines written to what is left of a page.
+#![tactic(auto)]
+
 mod line;
 mod parts;
 mod short;
