@@ -1,13 +1,8 @@
 -- The reduced graph of a session: few nodes, and fanins that are earlier ones.
-use Rattle.std.proofs.Common.{◌≡◌, ℕ, ◌<◌, ◌≤◌, [], ◌∷◌, length, Some, refl, ap, arith}
-use mathlib.Core.Logic.{∥∥₁_elim}
-use native.Mathlib.Bridge.{le_prop}
+use Rattle.std.proofs.Common.{◌≡◌, ℕ, ◌<◌, ◌≤◌, length, Some, refl, ap, arith}
 use Rattle.model.specs.Edges.{node_of}
 use Rattle.model.specs.Graphs.{Node, Graph, input, gate, at, Ordered}
-use Rattle.model.specs.Sessions.{State}
-use Rattle.model.proofs.Consistent.{run_consistent}
 use Rattle.sweeper.specs.declared.session.Session.{Session}
-use Rattle.sweeper.specs.Runs.{Reached}
 use Rattle.sweeper.specs.States.{state_in, image_in}
 use Rattle.sweeper.specs.Tables.{node_in, no_reduced}
 use Rattle.sweeper.proofs.Facts.{facts}

@@ -1,4 +1,6 @@
 //! How many gates a reduced edge rests on.
+#![tactic(auto)]
+
 ghost use Rattle.std.specs.Prelude.{length};
 ghost use Rattle.model.specs.Edges.{node_of};
 ghost use Rattle.model.specs.RunLaws.{Extends};

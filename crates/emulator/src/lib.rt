@@ -1,5 +1,7 @@
 // A client outside the sweeper: it loads a small design with two rankings of its own, evaluates it and audits the session.
 // Its contract says that exactly these calls form a run, and that the run keeps the laws.
+#![tactic(auto)]
+
 ghost use Rattle.std.specs.Prelude.{[]};
 ghost use Rattle.model.specs.Runs.{Run};
 ghost use Rattle.model.specs.Sessions.{Tables, positions, lean};

@@ -1,4 +1,6 @@
 // Signals through the graphs of a session: every node's signal from the inputs', in the source graph, the reduced graph or both.
+#![tactic(auto)]
+
 mod auditing;
 mod both;
 mod filling;

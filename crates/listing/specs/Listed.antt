@@ -2,8 +2,7 @@
 use Rattle.std.specs.Prelude.{◌≡◌, ℕ, suc, ◌+◌, ◌<◌, ◌≤◌, true, false, cond, List, [], ◌∷◌, ◌++◌, length, drop, Some, None, Option, refl}
 use Rattle.std.proofs.Common.{sym, ap, ◌∙◌, ⊎_elim, add-one, arith, drop_at}
 use Rattle.std.proofs.lemmas.List.{length_push, drop_all, drop-append-le}
-use Rattle.std.proofs.lemmas.Bool.{cases_eq, eq-eqb, ne_eqb, lt-ltb, le-ltb}
-use Rattle.std.proofs.str.Laws.{order}
+use Rattle.std.proofs.lemmas.Bool.{cases_eq, cases_lt, eq-eqb, ne_eqb, lt-ltb, le-ltb}
 use Rattle.model.specs.Graphs.{Node, Graph, at, input, gate, height, uses}
 use Rattle.model.specs.Sessions.{State}
 use Rattle.model.specs.Reports.{Line, node_lines, lines_of}
@@ -45,7 +44,7 @@ module _ {A : Type 0} (w : ℕ → A → Line) (F : List A → List Line) (none 
       (λ (z : length xs ≤ k).
       let past : entry d xs (k + 1) ≡ None = rw (ne_eqb (k + 1) 0 (λ q. omega arith), lt-ltb (length xs) (k + 1) (omega arith)) refl in
       ap (tell (w (k + 1))) (e ∙ past) ∙ next_none (F xs) k (omega (arith, count xs)))
-      (order k (length xs))
+      (cases_lt k (length xs))
 
 -- ---- the two kinds of such lists
 node_more : (x : Node) (g : Graph) → node_lines (x ∷ g) ≡ node_lines g ++ (node_line (suc (length g)) x ∷ [])

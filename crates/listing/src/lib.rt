@@ -1,4 +1,6 @@
 // A session's listing: its reduced net, tally and map, written to a page stage by stage.
+#![tactic(auto)]
+
 mod counts;
 mod going;
 mod maps;

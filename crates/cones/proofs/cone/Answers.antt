@@ -4,7 +4,8 @@ use Rattle.model.specs.Edges.{node_of}
 use Rattle.model.specs.Graphs.{cone_of, gates_that, rests_on}
 use Rattle.sweeper.specs.States.{state_in}
 use Rattle.cones.specs.Cones.{capped}
-use Rattle.cones.proofs.Ordering.{ordered, few_nodes}
+use Rattle.sweeper.proofs.Reaching.{ordered}
+use Rattle.cones.proofs.Ordering.{few_nodes}
 use Rattle.cones.proofs.Listing.{cone_of_lem}
 use Rattle.cones.proofs.Answering.{no_such_node, few_marks, counts, marks_wiped, cone-told}
 use Rattle.cones.proofs.cone.Goals as goal

@@ -1,6 +1,6 @@
 use Rattle.std.proofs.Common.{◌≡◌, ℕ, ◌+◌, ◌-◌, ◌<◌, cond, length, sym, ap, ◌∙◌, subst, arith, length-set}
 use Rattle.sweeper.specs.States.{state_in}
-use Rattle.cones.proofs.Ordering.{ordered}
+use Rattle.sweeper.proofs.Reaching.{ordered}
 use Rattle.cones.proofs.Passing.{Going, starts, goes_on, more, finished, too_many}
 use Rattle.cones.proofs.counting.count.Goals as goal
 use Rattle.cones.proofs.counting.count.Goals.{then-spread+else-gates-cap, else-spread}

@@ -1,6 +1,7 @@
 use Rattle.std.proofs.Common.{arith, length-set}
 use Rattle.sweeper.specs.States.{state_in}
-use Rattle.cones.proofs.Ordering.{ordered, fanins-earlier, Earlier}
+use Rattle.sweeper.proofs.Reaching.{ordered}
+use Rattle.cones.proofs.Ordering.{fanins-earlier, Earlier}
 use Rattle.cones.proofs.counting.spread.Goals as goal
 
 earlier : (c : goal.In-Some) → Earlier c.args.node c.in-Some.x c.in-Some.y

@@ -1,4 +1,4 @@
-use Rattle.std.proofs.Common.{◌≡◌, ◌≤◌, leb, ap, arith}
+use Rattle.std.proofs.Common.{◌≤◌, leb, ap, arith}
 use Rattle.std.proofs.lemmas.Bool.{leb-true}
 use Rattle.model.specs.Graphs.{inputs}
 use Rattle.model.specs.Sessions.{positions, lean}

@@ -4,7 +4,7 @@ use Rattle.pages.specs.Lines.{line_in}
 use Rattle.sweeper.specs.States.{state_in}
 use Rattle.listing.proofs.Onward.{none-past, text_more, text_end, written-some, none_yet, within, one_more, room-left, all_done}
 use Rattle.listing.proofs.rest.write_lines.Goals as goal
-use Rattle.listing.proofs.rest.write_lines.Goals.{in-Some+in-ok-end, in_default}
+use Rattle.listing.proofs.rest.write_lines.Goals.{in-Some+in_ok-end, in_default}
 
 pub loop-k-init : goal.loop-k-init
 loop-k-init g c = none_yet _ _ _
@@ -14,7 +14,7 @@ loop-k-preserved g c =
     let lines = g.S.Section.lines (state_in c.args.session.now) in
     let k = c.loop-k.k in
     elim c.match-line.branch [
-      | in-Some+in-ok-end w ↦
+      | in-Some+in_ok-end w ↦
           let l = line_in w.in-Some.line in
           let e = w.in_ok-end.ensures in
           let rest = text_of (drop (k + 1) lines) in
