@@ -1,5 +1,7 @@
 // Sweeps many nets, good and damaged ones, and compares each answer, byte by byte, with the one that is written beside it.
 // It prints how many agree and the cases that do not, and counts the answers for all texts next to a good one; its file stdout holds what it has to print.
+#![tactic(auto)]
+
 mod memory;
 mod nearby;
 mod packed;
@@ -15,7 +17,7 @@ use std::io::Read;
 const PAGE: usize = 20480;
 
 // Why the program ends with status 1.
-#[derive(Drop)]
+#[derive(Debug, Drop)]
 enum Failure {
     Io(io::Error),
     Memory,

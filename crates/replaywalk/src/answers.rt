@@ -1,6 +1,7 @@
 // What a call answers, as it is printed.
 use cuts::{Cut, Edge};
 use search::{Node, ReducedRow};
+use std::alloc::AllocError;
 use std::fmt;
 use std::fmt::Write;
 use sweeper::{Outcome, Swept, Tally};
@@ -47,7 +48,7 @@ fn write_row<W: fmt::Write>(f: &mut fmt::Formatter<W>, row: &ReducedRow) -> fmt:
 }
 
 // A word: the leaves in rising number, and the table.
-fn write_cut(answers: &mut String, cut: &Cut) -> fmt::Result {
+fn write_cut(answers: &mut String, cut: &Cut) -> Result<(), AllocError> {
     let mut mark = ' ';
     for leaf in cut.leaves() {
         write!(answers, "{mark}{leaf}")?;
@@ -56,7 +57,7 @@ fn write_cut(answers: &mut String, cut: &Cut) -> fmt::Result {
     write!(answers, ":{:04X}", cut.table())
 }
 
-pub(crate) fn write_cuts(answers: &mut String, cuts: &[Cut]) -> fmt::Result {
+pub(crate) fn write_cuts(answers: &mut String, cuts: &[Cut]) -> Result<(), AllocError> {
     for cut in cuts {
         write_cut(answers, cut)?;
     }

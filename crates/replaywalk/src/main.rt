@@ -1,5 +1,7 @@
 // Replays a list of calls on sweeping sessions: a call on each line of standard input, an answer on each line of standard output.
 // A line of another form ends the program with status 1 and the line's number on standard error.
+#![tactic(auto)]
+
 mod answers;
 mod calls;
 mod memory;
@@ -13,13 +15,13 @@ use replaying::replay;
 use script::read_script;
 use std::io;
 use std::io::Read;
+use std::process::ExitCode;
 
-// Why the program ends with status 1.
-#[derive(Drop)]
+// Why the program ends with status 1 before its answers are out.
+#[derive(Debug, Drop)]
 enum Failure {
     Io(io::Error),
     Memory,
-    OtherForm,
 }
 
 impl From<io::Error> for Failure {
@@ -41,7 +43,7 @@ fn read_input(rt: &HostRuntime) -> io::Result<String> {
     Ok(String::from_utf8_lossy(rt.alloc(), bytes.as_slice())?)
 }
 
-fn main(rt: HostRuntime) -> Result<(), Failure> {
+fn main(rt: HostRuntime) -> Result<ExitCode, Failure> {
     let text = read_input(&rt)?;
     let script = read_script(rt.alloc(), text.as_str())?;
     let mut answers = String::new(rt.alloc());
@@ -53,10 +55,10 @@ fn main(rt: HostRuntime) -> Result<(), Failure> {
     )?;
     rt.print(answers.as_str())?;
     match script.other {
-        None => Ok(()),
+        None => Ok(ExitCode::SUCCESS),
         Some(line) => {
             eprintln!(rt; "{line}")?;
-            Err(Failure::OtherForm)
+            Ok(ExitCode::FAILURE)
         }
     }
 }

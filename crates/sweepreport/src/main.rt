@@ -1,8 +1,11 @@
 // Sweeps a net text from standard input and prints its report, or the number and the line of its refusal.
 // What is answered is settled in the library netsweep; here is what is read, printed and told to the shell.
+#![tactic(auto)]
+
 use netsweep::{Refusal, sweep_text};
 use std::io;
 use std::io::{Read, Write};
+use std::process::ExitCode;
 
 // One byte more than the longest text, so that a longer one is seen to be too long.
 const MOST: u64 = 16385;
@@ -38,14 +41,22 @@ fn print_refusal(rt: &HostRuntime, refusal: Refusal) -> io::Result<()> {
     println!(rt; "line={}", refusal.line)
 }
 
-fn main(rt: HostRuntime) -> Result<(), Failure> {
-    let text = read_input(&rt)?;
+fn run(rt: &HostRuntime) -> Result<(), Failure> {
+    let text = read_input(rt)?;
     let mut page = [0u8; PAGE];
     match sweep_text(text.as_slice(), &mut page) {
-        Ok(length) => Ok(print_front(&rt, &page, length)?),
+        Ok(length) => Ok(print_front(rt, &page, length)?),
         Err(refusal) => {
-            print_refusal(&rt, refusal)?;
+            print_refusal(rt, refusal)?;
             Err(Failure::Refused)
         }
+    }
+}
+
+// Writes nothing to standard error, whatever the failure.
+fn main(rt: HostRuntime) -> ExitCode {
+    match run(&rt) {
+        Ok(()) => ExitCode::SUCCESS,
+        Err(_) => ExitCode::FAILURE,
     }
 }
