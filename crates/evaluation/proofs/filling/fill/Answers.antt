@@ -21,7 +21,7 @@ kind g = kind_of g.S.Signal.low g.S.Signal.meet g.S.Signal.flip
 room : (g : given.Over) (c : goal.In-Some g) → c.loop-node.n + 1 < length c.loop-node.places
 room g c =
     let known = (entry-some (graph_in c.args.side c.args.session.now) c.loop-node.n (node_in c.in-Some.node) c.in-Some.ensures).0 in
-    omega (arith, c.requires.room, c.loop-node.auto.places, length-set c.args.places.now 0 c.falsity.result)
+    omega (arith, c.requires.room, simp length-set at c.loop-node.auto.places)
 
 told-input : (g : given.Over) (c : goal.In-Input g) → Some input ≡ entry input (graph_in c.args.side c.args.session.now) (c.loop-node.n + 1)
 told-input g c = ap (λ q. Some (node_in q)) (sym c.in-Input.is) ∙ c.in-Some.ensures
@@ -69,7 +69,7 @@ edge_at-requires g c =
 pub edge_at-requires-in-Gate : goal.edge_at-requires-in-Gate
 edge_at-requires-in-Gate g c =
     let here = goal.at.edge_at-requires-in-Gate g c in
-    omega (arith, (earlier g here.In-Gate).1, room g here.In-Some)
+    omega (arith, (earlier g here.In-Gate).0, (earlier g here.In-Gate).1, room g here.In-Some)
 
 pub loop-node-preserved : goal.loop-node-preserved
 loop-node-preserved g c =
