@@ -1,8 +1,8 @@
 -- Opening, reading and listing, put together.
-use Rattle.std.proofs.Common.{◌≡◌, ℕ, ◌<◌, ◌≤◌, true, List, [], ◌++◌, length, Ok, Err, Result, sym, ap, ◌∙◌, subst, arith}
+use Rattle.std.proofs.Common.{◌≡◌, ℕ, ◌<◌, ◌≤◌, true, List, [], ◌++◌, length, Ok, Err, Result, sym, ◌∙◌, subst, arith}
 use Rattle.model.specs.Rankings.{by_height}
 use Rattle.model.specs.Sessions.{State, Tables, positions, lean, opened}
-use Rattle.model.specs.Runs.{Run, opening, calling}
+use Rattle.model.specs.Runs.{Run, opening}
 use Rattle.model.proofs.Sound.{sessions-fit}
 use Rattle.reading.specs.Net.{net_lines, Follows}
 use Rattle.reading.specs.Calls.{RunsOn}

@@ -1,5 +1,5 @@
 -- What is answered for a text, and what then stands on the page.
-use Rattle.std.specs.Prelude.{◌≡◌, ℕ, ◌<◌, ◌≤◌, cond, List, length, Result, MatchResult}
+use Rattle.std.specs.Prelude.{◌≡◌, ℕ, ◌<◌, ◌≤◌, List, length, Result, MatchResult}
 use Rattle.model.specs.Rankings.{by_height}
 use Rattle.model.specs.Sessions.{State, Tables, positions, lean, opened, refusal_number, too_short}
 use Rattle.model.specs.Texts.{report_text}

@@ -1,5 +1,7 @@
 // Sweeps a net text to its report, in a session of the size that the program has.
 // Reading, sweeping and listing are in the libraries below; here they are put together.
+#![tactic(auto)]
+
 ghost use Rattle.std.specs.Prelude.{◌≡◌};
 ghost use Rattle.reading.specs.Faults.{stop_in};
 ghost use Rattle.netsweep.specs.Sweeping.{refused_by, no_room, Sweeps, Answers};
