@@ -16,7 +16,7 @@ use std::io;
 use std::io::Read;
 use std::process::ExitCode;
 
-// Why the program ends with status 1 before its answers are out.
+// What fails besides a line of another form; the program then ends with status 1 and the error.
 #[derive(Debug, Drop)]
 enum Failure {
     Io(io::Error),
