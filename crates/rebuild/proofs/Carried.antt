@@ -1,22 +1,24 @@
 -- A net that was written, and what reading it gives.
-use Rattle.std.proofs.Common.{◌≡◌, ℕ, ◌-◌, ◌<◌, ◌≤◌, List, [], ◌∷◌, ◌++◌, map, length, take, drop, sym, refl, ap, ◌∙◌, subst, arith, take_at}
+use Rattle.std.proofs.Common.{◌≡◌, ℕ, ◌<◌, ◌≤◌, List, [], ◌∷◌, map, length, take, drop, Ok, Err, Result, sym, refl, ap, ◌∙◌, subst, arith, take_at}
 use mathlib.Core.Logic.{∥∥₁_elim}
 use native.Mathlib.Bridge.{le_prop}
-use Rattle.std.specs.List.{flat_map, AllByRecursion as All}
+use Rattle.std.specs.List.{flat_map, AllByRecursion}
 use Rattle.model.specs.Edges.{node_of}
 use Rattle.model.specs.Rankings.{Before}
 use Rattle.model.specs.Sessions.{State, map_edge}
 use Rattle.model.proofs.Sound.{lose_nothing, sessions-fit}
 use Rattle.lines.specs.Written.{written, Fit}
+use Rattle.reading.specs.declared.faults.TextFault.{TextFault}
 use Rattle.reading.specs.Net.{net_lines, Accepted, Follows}
 use Rattle.pages.specs.Page.{over}
 use Rattle.listing.specs.Sections.{net_text}
 use Rattle.sweeper.specs.Runs.{Reached}
 use Rattle.sweeper.proofs.Reaching.{ordered}
-use Rattle.rebuild.specs.Rebuilding.{Takes}
-use Rattle.rebuild.proofs.Nets.{Known, net_of, net_text_lem, net-fit, run-knows, NetRebuilt, rebuild_net}
+use Rattle.rebuild.specs.declared.RebuildFault.{RebuildFault}
+use Rattle.rebuild.specs.Rebuilding.{Takes, Rebuilds}
+use Rattle.rebuild.proofs.Nets.{Known, net_of, net_text_lem, net-fit, run-knows, rebuild_net}
 
-known_prop : (n : ℕ) (os : List ℕ) → IsProp (All (λ e. node_of e ≤ n) os)
+known_prop : (n : ℕ) (os : List ℕ) → IsProp (AllByRecursion (λ e. node_of e ≤ n) os)
 known_prop n [] a b = refl
 known_prop n (e ∷ os) a b = λ i. (le_prop a.0 b.0 i, known_prop n os a.1 b.1 i)
 
@@ -44,7 +46,7 @@ takes f s t r h =
       follows = record {
         graph = net;
         whole = net_text_lem s.reduced s.outputs ∙ ap (λ n. flat_map written (net_lines n net)) none;
-        fit = subst (λ n. All Fit (net_lines n net)) none (net-fit s.reduced s.outputs (ordered s r) (few_nodes s r) (known s r));
+        fit = subst (λ n. AllByRecursion Fit (net_lines n net)) none (net-fit s.reduced s.outputs (ordered s r) (few_nodes s r) (known s r));
         calls = subst (λ n. Accepted f t (net_lines n net) r'.after) none r'.calls;
       };
       source = r'.source;
@@ -54,3 +56,49 @@ takes f s t r h =
 -- the front of a page that a text was written over
 pub front : (text page : List ℕ) (n : ℕ) → n ≡ length text → take n (over text page) ≡ text
 front text page n e = take_at text (drop (length text) page) n (sym e)
+
+-- the front of a page that a text was written over, where the page is given by an equation
+pub read_back : (text page page' : List ℕ) (n : ℕ) → n ≡ length text → page' ≡ over text page → take n page' ≡ text
+read_back text page page' n e p = ap (take n) p ∙ front text page n e
+
+-- what the texts that a session takes come to
+abbrev pub Accepting : Before → State → List ℕ → Result (Unit {0}) TextFault → State → Type 0
+Accepting f t text a u = (v : State) → Follows f t text v → (a ≡ Ok tt) × (u ≡ v)
+
+module _ (f : Before) (s t : State) (page : List ℕ) (r : Result ℕ RebuildFault) (u : State) where
+  -- the page is too short
+  pub rebuilds_short : length page < length (net_text s) → Rebuilds s t page r u
+  rebuilds_short h = record {
+    answer = λ k room. absurd (omega (arith, h, room));
+    source = λ k room. absurd (omega (arith, h, room));
+    outputs = λ k room. absurd (omega (arith, h, room));
+  }
+
+  module _ (reached : Reached s) (a : Result (Unit {0}) TextFault) (accepts : Accepting f t (net_text s) a u) where
+    -- a session that takes the net refuses no line of it
+    none_takes : (d : TextFault) → a ≡ Err d → Takes t s.reduced s.outputs → ⊥
+    none_takes d e k =
+        let w = takes f s t reached k in
+        let ok = (accepts w.after w.follows).0 in
+        let z : ◌≡◌ {A = ℕ} 0 1 = cc in
+        omega arith
+
+    -- a line of the written net was refused: then the other session was not new, or had no space
+    pub rebuilds_refused : (d : TextFault) → a ≡ Err d → Rebuilds s t page r u
+    rebuilds_refused d e = record {
+      answer = λ k room. absurd (none_takes d e k);
+      source = λ k room. absurd (none_takes d e k);
+      outputs = λ k room. absurd (none_takes d e k);
+    }
+
+    -- the net was read
+    pub rebuilds_read : (n : ℕ) → n ≡ length (net_text s) → r ≡ Ok n → Rebuilds s t page r u
+    rebuilds_read n e is = record {
+      answer = λ k room. is ∙ ap (λ x. Ok x) e;
+      source = λ k room.
+          let w = takes f s t reached k in
+          ap (λ (x : State). x.source) (accepts w.after w.follows).1 ∙ w.source;
+      outputs = λ k room.
+          let w = takes f s t reached k in
+          subst (λ (x : State). x.outputs ≡ map (map_edge x) s.outputs) (sym (accepts w.after w.follows).1) w.outputs;
+    }

@@ -1,15 +1,14 @@
 -- The lines of a graph, read into a new session with space, make it the source graph.
-use Rattle.std.proofs.Common.{◌≡◌, ℕ, suc, ◌+◌, ◌*◌, ◌<◌, ◌≤◌, Bool, true, false, cond, ltb, leb, List, [], ◌∷◌, ◌++◌, map, length, Ok, Err, sym, refl, ap, ◌∙◌, subst, ap₂, arith}
+use Rattle.std.proofs.Common.{◌≡◌, ℕ, suc, ◌+◌, ◌<◌, ◌≤◌, true, false, ltb, List, [], ◌∷◌, ◌++◌, map, length, Ok, sym, refl, ap, ◌∙◌, subst, ap₂, arith}
 use lib.ListN.{length-map}
-use Rattle.std.specs.List.{flat_map, AllByRecursion as All}
+use Rattle.std.specs.List.{flat_map, AllByRecursion}
 use Rattle.std.proofs.lemmas.List.{append_assoc, length_push, map_push}
 use Rattle.std.proofs.ByRecursion.{All-push, All-append, All-weaker}
 use Rattle.std.proofs.lemmas.Bool.{le-leb, lt-ltb}
 use Rattle.model.specs.Edges.{node_of}
 use Rattle.model.specs.Graphs.{Node, input, gate, Graph, Ordered}
 use Rattle.model.specs.Rankings.{Before}
-use Rattle.model.specs.Search.{decide}
-use Rattle.model.specs.Sessions.{State, positions, map_edge, has_room, knows, with_input, with_output, sweep_gate, input_step, gate_step, output_step}
+use Rattle.model.specs.Sessions.{State, positions, map_edge, has_room, knows, with_input, with_output, sweep_gate}
 use Rattle.model.specs.Reports as report
 use Rattle.model.specs.Texts as text
 use Rattle.model.specs.Runs.{Event, Run, opening, calling}
@@ -21,7 +20,7 @@ use Rattle.lines.specs.declared.lines.Line.{Line}
 use Rattle.lines.specs.declared.lines.Line.TheVariants.{Net, Input, Gate, Out, End}
 use Rattle.lines.specs.Written.{line_in, written, Fit}
 use Rattle.reading.specs.Net.{node_lines, net_lines, Accepted}
-use Rattle.reading.specs.Reading.{after_call, called}
+use Rattle.reading.specs.Reading.{called}
 use Rattle.reading.specs.Net as net
 
 -- a list whose newest stands first, from its oldest on
@@ -124,7 +123,7 @@ module _ (f : Before) where
     pub outputs : after.outputs ≡ map (map_edge s) os
     pub rows : after.rows_for_outputs ≡ s.rows_for_outputs
 
-  pub name_outputs : (s : State) → s.outputs ≡ [] → (os : List ℕ) → All (λ e. node_of e ≤ length s.source) os → length os ≤ s.rows_for_outputs → Named os s
+  pub name_outputs : (s : State) → s.outputs ≡ [] → (os : List ℕ) → AllByRecursion (λ e. node_of e ≤ length s.source) os → length os ≤ s.rows_for_outputs → Named os s
   name_outputs s new [] known room = record { after = s; calls = refl; source = refl; maps = refl; outputs = new; rows = refl }
   name_outputs s new (e ∷ os) known room =
       let r = name_outputs s new os known.1 (omega arith) in
@@ -151,10 +150,10 @@ module _ (f : Before) where
   map_same : (s t : State) (os : List ℕ) → t.mapped ≡ s.mapped → map (map_edge s) os ≡ map (map_edge t) os
   map_same s t os e = ap (λ ms. map (λ (x : ℕ). Rattle.model.specs.Edges.signed (Rattle.model.specs.Graphs.at 0 ms (node_of x)) (Rattle.model.specs.Edges.sign_of x)) os) (sym e)
 
-  all-at : (n m : ℕ) (os : List ℕ) → n ≡ m → All (λ e. node_of e ≤ n) os → All (λ e. node_of e ≤ m) os
-  all-at n m os e h = subst (λ k. All (λ x. node_of x ≤ k) os) e h
+  all-at : (n m : ℕ) (os : List ℕ) → n ≡ m → AllByRecursion (λ e. node_of e ≤ n) os → AllByRecursion (λ e. node_of e ≤ m) os
+  all-at n m os e h = subst (λ k. AllByRecursion (λ x. node_of x ≤ k) os) e h
 
-  pub rebuild_net : (g : Graph) (os : List ℕ) (s : State) → s.source ≡ [] → s.outputs ≡ [] → Ordered g → All (λ e. node_of e ≤ length g) os → length g ≤ s.capacity → length os ≤ s.rows_for_outputs → NetRebuilt g os s
+  pub rebuild_net : (g : Graph) (os : List ℕ) (s : State) → s.source ≡ [] → s.outputs ≡ [] → Ordered g → AllByRecursion (λ e. node_of e ≤ length g) os → length g ≤ s.capacity → length os ≤ s.rows_for_outputs → NetRebuilt g os s
   rebuild_net g os s new none ordered known nodes rows =
       let r = rebuild_nodes s new g ordered nodes in
       let q = name_outputs r.after (r.outputs ∙ none) os (all-at (length g) (length r.after.source) os (sym (ap length r.source)) known) (let z = r.rows in omega (arith, z)) in
@@ -216,21 +215,21 @@ net_text_lem g os = sym (joined_in (net_lines 0 (net_of g os)) ∙ ap text.text_
 small-edge : (e n : ℕ) → node_of e ≤ n → n ≤ 16383 → e < 32768
 small-edge e n h k = omega arith
 
-nodes_fit : (g : Graph) → Ordered g → length g ≤ 16383 → All Fit (node_lines 1 (oldest g))
+nodes_fit : (g : Graph) → Ordered g → length g ≤ 16383 → AllByRecursion Fit (node_lines 1 (oldest g))
 nodes_fit [] o few = tt
 nodes_fit (input ∷ g) o few =
-    subst (All Fit) (sym (node-push (λ a b. false) 1 (oldest g) input))
+    subst (AllByRecursion Fit) (sym (node-push (λ a b. false) 1 (oldest g) input))
     (All-push Fit (node_lines 1 (oldest g)) (Input (1 + length (oldest g))) (nodes_fit g o (omega arith)) (let e = oldest-length g in omega arith))
 nodes_fit (gate x y ∷ g) o few =
-    subst (All Fit) (sym (node-push (λ a b. false) 1 (oldest g) (gate x y)))
+    subst (AllByRecursion Fit) (sym (node-push (λ a b. false) 1 (oldest g) (gate x y)))
     (All-push Fit (node_lines 1 (oldest g)) (Gate x y) (nodes_fit g o.2 (omega arith)) (small-edge x (length g) o.0 (omega arith), small-edge y (length g) o.1 (omega arith)))
 
-outs-fit : (n : ℕ) → n ≤ 16383 → (os : List ℕ) → All (λ e. node_of e ≤ n) os → All Fit (map (λ e. Out e) (oldest os))
+outs-fit : (n : ℕ) → n ≤ 16383 → (os : List ℕ) → AllByRecursion (λ e. node_of e ≤ n) os → AllByRecursion Fit (map (λ e. Out e) (oldest os))
 outs-fit n few [] h = tt
 outs-fit n few (e ∷ os) h =
-    subst (All Fit) (sym (map_push (λ x. Out x) (oldest os) e)) (All-push Fit (map (λ x. Out x) (oldest os)) (Out e) (outs-fit n few os h.1) (small-edge e n h.0 few))
+    subst (AllByRecursion Fit) (sym (map_push (λ x. Out x) (oldest os) e)) (All-push Fit (map (λ x. Out x) (oldest os)) (Out e) (outs-fit n few os h.1) (small-edge e n h.0 few))
 
-pub net-fit : (g : Graph) (os : List ℕ) → Ordered g → length g ≤ 16383 → All (λ e. node_of e ≤ length g) os → All Fit (net_lines 0 (net_of g os))
+pub net-fit : (g : Graph) (os : List ℕ) → Ordered g → length g ≤ 16383 → AllByRecursion (λ e. node_of e ≤ length g) os → AllByRecursion Fit (net_lines 0 (net_of g os))
 net-fit g os o few known = (
   omega arith,
   All-append Fit (node_lines 1 (oldest g)) (map (λ e. Out e) (oldest os) ++ End (0 + length (oldest g)) ∷ []) (nodes_fit g o few)
@@ -239,7 +238,7 @@ net-fit g os o few known = (
 
 -- ---- the outputs of a run name nodes of the reduced graph
 abbrev pub Known : State → Type 0
-Known s = All (λ e. node_of e ≤ length s.reduced) s.outputs
+Known s = AllByRecursion (λ e. node_of e ≤ length s.reduced) s.outputs
 
 grows : (g : Graph) (x y : ℕ) (d : Decision) → length g ≤ length (reduced_after g x y d)
 grows g x y (folded e) = omega arith
@@ -247,7 +246,7 @@ grows g x y (shared e) = omega arith
 grows g x y (merged e) = omega arith
 grows g x y (made cs) = omega arith
 
-known_more : (n m : ℕ) → n ≤ m → (os : List ℕ) → All (λ e. node_of e ≤ n) os → All (λ e. node_of e ≤ m) os
+known_more : (n m : ℕ) → n ≤ m → (os : List ℕ) → AllByRecursion (λ e. node_of e ≤ n) os → AllByRecursion (λ e. node_of e ≤ m) os
 known_more n m h os k = All-weaker (λ e. node_of e ≤ n) (λ e. node_of e ≤ m) (λ e l. omega arith) os k
 
 change-knows : (p : ℕ) (s : State) (c : Call p) (u : After) → Change p s c u → ((e : ℕ) → node_of (map_edge s e) ≤ length s.reduced) → Known s → Known u.state

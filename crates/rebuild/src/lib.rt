@@ -1,4 +1,6 @@
 // The net of one session, read into another: the reduced graph becomes a source graph again.
+#![tactic(auto)]
+
 ghost use Rattle.std.specs.Prelude.{◌≡◌};
 ghost use Rattle.sweeper.specs.States.{state_in};
 ghost use Rattle.rebuild.specs.declared.RebuildFault.TheVariants as rebuild_fault;
