@@ -2,3 +2,4 @@ pub mod Probed
 pub mod Passed
 pub mod Entering
 pub mod Standing
+pub mod Holding

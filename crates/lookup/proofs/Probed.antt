@@ -1,25 +1,23 @@
 -- One step of a search, by what the slot holds.
-use Rattle.std.proofs.Common.{◌≡◌, ℕ, suc, true, false, List, length, get_or, refl}
+use Rattle.std.proofs.Common.{◌≡◌, ℕ, suc, true, false, List, length, get_or, refl, Some, None}
 use Rattle.model.specs.Keys.{eq_list}
-use Rattle.lookup.specs.declared.slot.Slot.{Slot}
-use Rattle.lookup.specs.declared.slot.Slot.TheVariants.{Free, Taken}
 use Rattle.lookup.specs.declared.slot.Place.TheVariants.{Found, Open, Nowhere}
-use Rattle.lookup.specs.Slots.{probed_from, after}
+use Rattle.lookup.specs.Slots.{Slot, probed_from, after}
 
 module _ {K : Type 0} (mean : K → List ℕ) (slots : List (Slot K)) (m : List ℕ) where
   pub probe_none : (i : ℕ) → probed_from mean slots m 0 i ≡ Nowhere
   unfolding probed_from
   probe_none i = refl
 
-  pub probe_free : (f i : ℕ) → get_or slots i Free ≡ Free → probed_from mean slots m (suc f) i ≡ Open i
+  pub probe_free : (f i : ℕ) → get_or slots i None ≡ None → probed_from mean slots m (suc f) i ≡ Open i
   unfolding probed_from
   probe_free f i e = rw e refl
 
-  pub probe_found : (f i : ℕ) (k : K) (v : ℕ) → get_or slots i Free ≡ Taken k v → eq_list (mean k) m ≡ true → probed_from mean slots m (suc f) i ≡ Found i v
+  pub probe_found : (f i : ℕ) (k : K) (v : ℕ) → get_or slots i None ≡ Some (k, v) → eq_list (mean k) m ≡ true → probed_from mean slots m (suc f) i ≡ Found i v
   unfolding probed_from
   probe_found f i k v e s = rw e (rw s refl)
 
-  pub probe_on : (f i : ℕ) (k : K) (v : ℕ) → get_or slots i Free ≡ Taken k v → eq_list (mean k) m ≡ false
+  pub probe_on : (f i : ℕ) (k : K) (v : ℕ) → get_or slots i None ≡ Some (k, v) → eq_list (mean k) m ≡ false
       → probed_from mean slots m (suc f) i ≡ probed_from mean slots m f (after (length slots) i)
   unfolding probed_from
   probe_on f i k v e s = rw e (rw s refl)

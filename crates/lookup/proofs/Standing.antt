@@ -1,15 +1,13 @@
 -- How many slots are taken, what entering answers by that, and what the slots stand for afterwards.
-use Rattle.std.proofs.Common.{◌≡◌, ℕ, zero, suc, ◌+◌, ◌<◌, ◌≤◌, cond, List, [], ◌∷◌, length, get_or, set, replicate, Some, None, Option, sym, refl, ap, ◌∙◌, arith, length-set}
+use Rattle.std.proofs.Common.{◌≡◌, ℕ, zero, suc, ◌+◌, ◌<◌, ◌≤◌, cond, List, [], ◌∷◌, length, get_or, set, replicate, Some, None, Option, Ok, Err, sym, refl, ap, ◌∙◌, arith, length-set}
 use Rattle.std.proofs.lemmas.Bool.{lt-ltb, le-ltb}
 use Rattle.std.specs.Option.{option_to_list}
 use Rattle.model.specs.Keys.{eq_list}
 use Rattle.model.proofs.Keys.{first-none, first_one}
-use Rattle.lookup.specs.declared.slot.Slot.{Slot}
-use Rattle.lookup.specs.declared.slot.Slot.TheVariants.{Free, Taken}
 use Rattle.lookup.specs.declared.slot.Place.{Place}
 use Rattle.lookup.specs.declared.slot.Place.TheVariants.{Found, Open, Nowhere}
-use Rattle.lookup.specs.declared.slot.Entered.TheVariants.{New, Full}
-use Rattle.lookup.specs.Slots.{probed, found, value_at, slots_after, answer_at, Inside}
+use Rattle.lookup.specs.declared.slot.NotEntered.TheVariants.{Full}
+use Rattle.lookup.specs.Slots.{Slot, probed, found, value_at, slots_after, answer_at, Inside}
 use Rattle.lookup.specs.Entries.{Tidy, taken_by, taken, answer_for, with_entry, Stands, Entry, entered, Holds, entries_after}
 use Rattle.lookup.proofs.Probed.{probe_none, probe_free}
 use Rattle.lookup.proofs.Passed.{inside-from, none_free}
@@ -17,51 +15,51 @@ use Rattle.lookup.proofs.Entering.{was_open, open_tidy, open_gives}
 
 module _ {K : Type 0} where
   one_at_most : (s : Slot K) → taken_by s ≤ 1
-  one_at_most Free = omega arith
-  one_at_most (Taken k v) = omega arith
+  one_at_most None = omega arith
+  one_at_most (Some (k, v)) = omega arith
 
   taken-le : (slots : List (Slot K)) → taken slots ≤ length slots
   taken-le [] = omega arith
   taken-le (s ∷ ss) = omega (arith, one_at_most s, taken-le ss)
 
   -- with no free slot all are taken
-  all-taken : (slots : List (Slot K)) → ((j : ℕ) → j < length slots → get_or slots j Free ≡ Free → ⊥) → taken slots ≡ length slots
+  all-taken : (slots : List (Slot K)) → ((j : ℕ) → j < length slots → get_or slots j None ≡ None → ⊥) → taken slots ≡ length slots
   all-taken [] h = refl
-  all-taken (Free ∷ ss) h = absurd (h 0 (omega arith) refl)
-  all-taken (Taken k v ∷ ss) h = omega (arith, all-taken ss (λ j l e. h (suc j) (omega arith) e))
+  all-taken (None ∷ ss) h = absurd (h 0 (omega arith) refl)
+  all-taken (Some (k, v) ∷ ss) h = omega (arith, all-taken ss (λ j l e. h (suc j) (omega arith) e))
 
-  taken_more : (slots : List (Slot K)) (i : ℕ) (k : K) (v : ℕ) → i < length slots → get_or slots i Free ≡ Free → taken (set slots i (Taken k v)) ≡ taken slots + 1
+  taken_more : (slots : List (Slot K)) (i : ℕ) (k : K) (v : ℕ) → i < length slots → get_or slots i None ≡ None → taken (set slots i (Some (k, v))) ≡ taken slots + 1
   taken_more [] i k v l e = absurd (omega arith)
   taken_more (s ∷ ss) zero k v l e = omega (arith, ap taken_by e)
   taken_more (s ∷ ss) (suc i) k v l e = omega (arith, taken_more ss i k v (omega arith) e)
 
 pub length-after : {K : Type 0} (p : Place) (slots : List (Slot K)) (k : K) (v : ℕ) → length (slots_after p slots k v) ≡ length slots
 length-after (Found i w) slots k v = refl
-length-after (Open i) slots k v = length-set slots i (Taken k v)
+length-after (Open i) slots k v = length-set slots i (Some (k, v))
 length-after Nowhere slots k v = refl
 
-taken_none : (K : Type 0) (n : ℕ) → taken {K = K} (replicate n Free) ≡ 0
+taken_none : (K : Type 0) (n : ℕ) → taken {K = K} (replicate n None) ≡ 0
 taken_none K zero = refl
 taken_none K (suc n) = omega (arith, taken_none K n)
 
-free_all : (K : Type 0) (n i : ℕ) → get_or {A = Slot K} (replicate n Free) i Free ≡ Free
+free_all : (K : Type 0) (n i : ℕ) → get_or {A = Slot K} (replicate n None) i None ≡ None
 free_all K zero i = refl
 free_all K (suc n) zero = refl
 free_all K (suc n) (suc i) = free_all K n i
 
 module _ {K : Type 0} (mean : K → List ℕ) (first : List ℕ → ℕ → ℕ) where
   -- in free slots nothing is found
-  free-gives : (n : ℕ) (q : List ℕ) → found mean first (replicate n Free) q ≡ None
+  free-gives : (n : ℕ) (q : List ℕ) → found mean first (replicate n None) q ≡ None
   free-gives zero q = ap value_at (probe_none mean [] q (first q 0))
   free-gives (suc n) q =
-      let slots : List (Slot K) = replicate (suc n) Free in
+      let slots : List (Slot K) = replicate (suc n) None in
       let f = first q (length slots) in
-      ap value_at (probe_free mean slots q (length (replicate {A = Slot K} n Free)) f (free_all K (suc n) f))
+      ap value_at (probe_free mean slots q (length (replicate {A = Slot K} n None)) f (free_all K (suc n) f))
 
-  pub free-stands : (n : ℕ) → Stands mean first (replicate n Free) (λ _. None) 0
+  pub free-stands : (n : ℕ) → Stands mean first (replicate n None) (λ _. None) 0
   free-stands n = record { tidy = λ i. rw (free_all K n i) refl; gives = free-gives n; count = taken_none K n }
 
-  pub free-holds : (n : ℕ) → Holds mean first (replicate n Free) []
+  pub free-holds : (n : ℕ) → Holds mean first (replicate n None) []
   free-holds n =
       record { tidy = λ i. rw (free_all K n i) refl; gives = λ q. free-gives n q ∙ sym (first-none (λ (e : Entry). e.key) (λ e. Some e.value) None q); count = taken_none K n }
 
@@ -78,7 +76,7 @@ module _ {K : Type 0} (mean : K → List ℕ) (first : List ℕ → ℕ → ℕ)
     within_open : (i : ℕ) → probed mean first slots (mean k) ≡ Open i → i < length slots
     within_open i o = rw o at (inside slots (mean k))
 
-    open_count : (i : ℕ) → probed mean first slots (mean k) ≡ Open i → taken (set slots i (Taken k v)) ≡ taken slots + 1
+    open_count : (i : ℕ) → probed mean first slots (mean k) ≡ Open i → taken (set slots i (Some (k, v))) ≡ taken slots + 1
     open_count i o = taken_more slots i k v (within_open i o) (was_open mean first slots i k v (within_open i o) o)
 
     -- the answer, whatever the slots hold
@@ -88,12 +86,12 @@ module _ {K : Type 0} (mean : K → List ℕ) (first : List ℕ → ℕ → ℕ)
         go : (p : Place) → probed mean first slots (mean k) ≡ p → answer_at p ≡ answer_for (length slots) (taken slots) (value_at p)
         go (Found i w) e = refl
         go (Open i) e =
-            let less : taken slots < length slots = omega (arith, open_count i e, taken-le (set slots i (Taken k v)), length-set slots i (Taken k v)) in
-            ap (λ t. cond t New Full) (sym (lt-ltb (taken slots) (length slots) less))
-        go Nowhere e = ap (λ t. cond t New Full) (sym (le-ltb (taken slots) (length slots) (omega (arith, full slots (mean k) e))))
+            let less : taken slots < length slots = omega (arith, open_count i e, taken-le (set slots i (Some (k, v))), length-set slots i (Some (k, v))) in
+            ap (λ t. cond t (Ok tt) (Err Full)) (sym (lt-ltb (taken slots) (length slots) less))
+        go Nowhere e = ap (λ t. cond t (Ok tt) (Err Full)) (sym (le-ltb (taken slots) (length slots) (omega (arith, full slots (mean k) e))))
 
     open_stands : (i : ℕ) → probed mean first slots (mean k) ≡ Open i → (look : List ℕ → Option ℕ) (n : ℕ) → Stands mean first slots look n
-        → Stands mean first (set slots i (Taken k v)) (with_entry (mean k) v look) (n + 1)
+        → Stands mean first (set slots i (Some (k, v))) (with_entry (mean k) v look) (n + 1)
     open_stands i o look n s =
         record {
           tidy = open_tidy mean first slots i k v (within_open i o) o s.tidy;
@@ -103,10 +101,10 @@ module _ {K : Type 0} (mean : K → List ℕ) (first : List ℕ → ℕ → ℕ)
 
     -- a new key where a slot is left is entered, and nothing else changes
     pub new-stands : (look : List ℕ → Option ℕ) (n : ℕ) → Stands mean first slots look n → look (mean k) ≡ None → n < length slots
-        → (answer_at (probed mean first slots (mean k)) ≡ New) × Stands mean first (slots_after (probed mean first slots (mean k)) slots k v) (with_entry (mean k) v look) (n + 1)
+        → (answer_at (probed mean first slots (mean k)) ≡ Ok tt) × Stands mean first (slots_after (probed mean first slots (mean k)) slots k v) (with_entry (mean k) v look) (n + 1)
     new-stands look n s new room = go (probed mean first slots (mean k)) refl
       where
-        go : (p : Place) → probed mean first slots (mean k) ≡ p → (answer_at p ≡ New) × Stands mean first (slots_after p slots k v) (with_entry (mean k) v look) (n + 1)
+        go : (p : Place) → probed mean first slots (mean k) ≡ p → (answer_at p ≡ Ok tt) × Stands mean first (slots_after p slots k v) (with_entry (mean k) v look) (n + 1)
         go (Found i w) e = let z : Some w ≡ None = sym (ap value_at e) ∙ s.gives (mean k) ∙ new in let y : ◌≡◌ {A = ℕ} 0 1 = cc in absurd (omega arith)
         go (Open i) e = (refl, open_stands i e look n s)
         go Nowhere e = absurd (omega (arith, full slots (mean k) e, s.count))

@@ -1,60 +1,51 @@
-ghost use Rattle.std.specs.Prelude.{◌≡◌, ℕ, ◌+◌, ◌≤◌, length, take, drop};
+ghost use Rattle.std.specs.Prelude.{◌≡◌, ℕ, ◌+◌, ◌≤◌, drop};
 ghost use Rattle.model.specs.Keys.{holds, added_in, is_new};
+ghost use Rattle.lent.specs.Lists.{listed, unused, room, lender};
 
-use crate::key::{HashedKey, Key};
+use crate::key::Key;
+use lent::LentList;
 
 // The first of each key, in the order in which they came, while there are places.
 #[derive(Drop)]
 pub struct DistinctList<'a, K> {
-    places: &'a mut [K],
-    count: usize,
-    ghost within: { count ≤ length places.now },
+    list: LentList<'a, K>,
 }
 
 // Whether the key is one of the keys.
-pub(crate) fn is_in<K: Key>(keys: &[K], key: &K) -> bool
+fn is_in<K: Key>(keys: &[K], key: &K) -> bool
     ensures { result ≡ holds K.Key.meaning (K.Key.meaning key.now) keys.now }
 {
-    for k in keys {
-        if k.same(key) {
-            return true;
-        }
-    }
-    false
+    keys.iter().any(|k| k.same(key))
 }
 
-impl<'a, K: HashedKey> DistinctList<'a, K> {
+impl<'a, K: Key> DistinctList<'a, K> {
     // An empty list on the lent places.
     pub fn new(places: &'a mut [K]) -> DistinctList<'a, K>
-        ensures empty { result.count ≡ 0 }
-        ensures kept { result.places.now ≡ places.old }
+        ensures empty { result.list.count ≡ 0 }
+        ensures kept { result.list.places.now ≡ places.old }
+        ensures lender { lender result.list ≡ places.entry.ghost_name }
     {
-        DistinctList { places, count: 0 }
+        DistinctList {
+            list: LentList::new(places),
+        }
     }
 
     // The keys in the list.
     pub fn items(&self) -> &[K]
-        ensures { result.now ≡ take self.now.count self.now.places.now }
+        ensures { result.now ≡ listed self.now.list }
     {
-        &self.places[0..self.count]
+        self.list.items()
     }
 
     // Adds the key if it is new and there is a place for it, and says whether it did.
     pub fn add(&mut self, key: K) -> bool
-        ensures room { length self.new.places.now ≡ length self.old.places.now }
-        ensures next { self.new.count ≤ self.old.count + 1 }
-        ensures adds { take self.new.count self.new.places.now ≡ added_in (length self.old.places.now) K.Key.meaning key (take self.old.count self.old.places.now) }
-        ensures rest { drop self.new.count self.new.places.now ≡ drop self.new.count self.old.places.now }
-        ensures told { result ≡ is_new (length self.old.places.now) K.Key.meaning key (take self.old.count self.old.places.now) }
+        ensures room { room self.new.list ≡ room self.old.list }
+        ensures next { self.new.list.count ≤ self.old.list.count + 1 }
+        ensures adds { listed self.new.list ≡ added_in (room self.old.list) K.Key.meaning key (listed self.old.list) }
+        ensures rest { unused self.new.list ≡ drop self.new.list.count self.old.list.places.now }
+        ensures told { result ≡ is_new (room self.old.list) K.Key.meaning key (listed self.old.list) }
+        ensures lender { lender self.new.list ≡ lender self.old.list }
     {
-        if self.count >= self.places.len() {
-            return false;
-        }
-        if is_in(self.items(), &key) {
-            return false;
-        }
-        self.places[self.count] = key;
-        self.count += 1;
-        true
+        !is_in(self.items(), &key) && self.list.push(key)
     }
 }

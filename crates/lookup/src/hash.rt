@@ -13,11 +13,7 @@ pub fn mix(hash: u64, number: u16) -> u64
 pub fn mix_all(hash: u64, numbers: &[u16]) -> u64
     ensures { result ≡ mixed_all hash numbers.now }
 {
-    let mut all = hash;
-    for number in numbers {
-        all = mix(all, *number);
-    }
-    all
+    numbers.iter().fold(hash, |all, number| mix(all, *number))
 }
 
 // The slot that a hash names: its share of 2^64, taken of the number of slots.

@@ -13,6 +13,6 @@ mod table;
 pub use distinct::DistinctList;
 pub use fanin_pair::FaninPair;
 pub use hash::{mix, mix_all, slot_of};
-pub use key::{HashedKey, Key};
-pub use slot::{Entered, Slot};
+pub use key::{HashedKey, Key, MixedKey};
+pub use slot::{NotEntered, Slot};
 pub use table::SlotTable;

@@ -1,9 +1,5 @@
 // A slot of a table: free, or taken by a key with its value.
-#[derive(Clone, Copy)]
-pub enum Slot<K> {
-    Free,
-    Taken(K, u16),
-}
+pub type Slot<K> = Option<(K, u16)>;
 
 // What a search for a key comes to: the slot that has it, the free slot that ended the search, or neither.
 #[derive(Clone, Copy)]
@@ -13,10 +9,9 @@ pub(crate) enum Place {
     Nowhere,
 }
 
-// What became of a key that was to be entered.
+// Why a key was not entered.
 #[derive(Clone, Copy, PartialEq, Eq, Debug)]
-pub enum Entered {
-    New,
+pub enum NotEntered {
     AlreadyThere,
     Full,
 }

@@ -1,18 +1,8 @@
-ghost use Rattle.std.specs.Prelude.{◌≡◌, ℕ, ◌<◌, length, replicate};
-ghost use Rattle.lookup.specs.declared.slot.Slot.TheVariants.{Free};
+ghost use Rattle.std.specs.Prelude.{◌≡◌, ℕ, ◌<◌, length};
 ghost use Rattle.lookup.specs.Slots.{probed, slots_after, answer_at, Inside};
 
-use crate::key::{HashedKey, Key};
-use crate::slot::{Entered, Place, Slot};
-
-// Makes every slot free.
-pub(crate) fn clear<K: Key>(slots: &mut [Slot<K>])
-    ensures { slots.new ≡ replicate (length slots.old) Free }
-{
-    for slot in slots.iter_mut() {
-        *slot = Slot::Free;
-    }
-}
+use crate::key::HashedKey;
+use crate::slot::{NotEntered, Place, Slot};
 
 // Searches for a key from its first slot on, past the last slot to slot 0, through each slot at most once.
 pub(crate) fn probe<K: HashedKey>(slots: &[Slot<K>], key: &K) -> Place
@@ -25,12 +15,11 @@ pub(crate) fn probe<K: HashedKey>(slots: &[Slot<K>], key: &K) -> Place
     }
     let mut i = key.first_slot(n);
     for turn in 0..n {
-        let slot = slots[i];
-        match slot {
-            Slot::Free => return Place::Open(i),
-            Slot::Taken(k, value) => {
+        match &slots[i] {
+            None => return Place::Open(i),
+            Some((k, value)) => {
                 if k.same(key) {
-                    return Place::Found(i, value);
+                    return Place::Found(i, *value);
                 }
             }
         }
@@ -40,16 +29,20 @@ pub(crate) fn probe<K: HashedKey>(slots: &[Slot<K>], key: &K) -> Place
 }
 
 // Stores a key with its value in the free slot that ends the search for it.
-pub(crate) fn store<K: HashedKey>(slots: &mut [Slot<K>], key: K, value: u16) -> Entered
+pub(crate) fn store<K: HashedKey>(
+    slots: &mut [Slot<K>],
+    key: K,
+    value: u16,
+) -> Result<(), NotEntered>
     ensures slots { slots.new ≡ slots_after (probed K.Key.meaning K.HashedKey.slot slots.old (K.Key.meaning key)) slots.old key value }
     ensures answer { result ≡ answer_at (probed K.Key.meaning K.HashedKey.slot slots.old (K.Key.meaning key)) }
 {
     match probe(slots, &key) {
-        Place::Found(_, _) => Entered::AlreadyThere,
+        Place::Found(_, _) => Err(NotEntered::AlreadyThere),
         Place::Open(i) => {
-            slots[i] = Slot::Taken(key, value);
-            Entered::New
+            slots[i] = Some((key, value));
+            Ok(())
         }
-        Place::Nowhere => Entered::Full,
+        Place::Nowhere => Err(NotEntered::Full),
     }
 }

@@ -1,27 +1,19 @@
-ghost use Rattle.lookup.specs.Hash.{hashed_slot};
 ghost use Rattle.lookupuser.specs.Leaves.{leaf_meaning};
-ghost use Rattle.lookup.specs.Mixing.{slot_within};
-ghost use Rattle.std.proofs.Common.{rules};
 
 use crate::leaf_key::LeafKey;
-use lookup::{HashedKey, Key, mix, mix_all, slot_of};
+use lookup::{Key, MixedKey, mix, mix_all};
 
 impl Key for LeafKey {
     ghost meaning = { leaf_meaning };
 
+    // A derived `==` would compare the places past the count too.
     fn same(&self, other: &LeafKey) -> bool {
         self.table == other.table && self.leaves() == other.leaves()
     }
 }
 
-impl HashedKey for LeafKey {
-    ghost slot = { hashed_slot };
-
-    ghost within = { λ m n h. slot_within m n h };
-
-    ghost none = { Prim.search rules };
-
-    fn first_slot(&self, slots: usize) -> usize {
-        slot_of(mix_all(mix(0, self.table), self.leaves()), slots)
+impl MixedKey for LeafKey {
+    fn hash(&self) -> u64 {
+        mix_all(mix(0, self.table), self.leaves())
     }
 }

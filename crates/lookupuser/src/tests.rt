@@ -1,4 +1,4 @@
-use lookup::{DistinctList, Entered, FaninPair, Slot, SlotTable};
+use lookup::{DistinctList, FaninPair, NotEntered, SlotTable};
 
 const A: FaninPair = FaninPair {
     first: 2,
@@ -12,12 +12,12 @@ const B: FaninPair = FaninPair {
 
 #[test]
 fn one_slot_fills(rt: HostRuntime) {
-    let mut slots = [Slot::Taken(B, 9)];
+    let mut slots = [Some((B, 9))];
     let mut table = SlotTable::open(&mut slots);
     assert_eq!(rt; table.find(&B), None);
-    assert_eq!(rt; table.enter(A, 6), Entered::New);
-    assert_eq!(rt; table.enter(A, 8), Entered::AlreadyThere);
-    assert_eq!(rt; table.enter(B, 8), Entered::Full);
+    assert_eq!(rt; table.enter(A, 6), Ok(()));
+    assert_eq!(rt; table.enter(A, 8), Err(NotEntered::AlreadyThere));
+    assert_eq!(rt; table.enter(B, 8), Err(NotEntered::Full));
     assert_eq!(rt; table.find(&A), Some(6));
 }
 

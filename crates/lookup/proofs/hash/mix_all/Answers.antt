@@ -1,14 +1,14 @@
-use Rattle.std.proofs.Common.{◌+◌, drop, sym, ap, ◌∙◌}
-use Rattle.std.proofs.lemmas.List.{at_drop_more, at_drop_all}
-use Rattle.lookup.specs.Hash.{mixed_all}
+use Rattle.std.proofs.Common.{◌≡◌, ℕ, List, [], ◌∷◌, fold, rules, tests, refl, ◌∙◌}
+use Rattle.std.proofs.lemmas.Iterator.{YieldsList-from_slice}
+use Rattle.std.proofs.lemmas.Iterator.Consumers.{fold_from_yields_List}
+use Rattle.lookup.specs.Hash.{mixed, mixed_all}
 use Rattle.lookup.proofs.hash.mix_all.Goals as goal
 
-pub loop-number-preserved : goal.loop-number-preserved
-loop-number-preserved c =
-    let xs = c.args.numbers.now in
-    let i = c.loop-number.number-index in
-    let h = c.loop-number.all in
-    ap (λ a. mixed_all a (drop (i + 1) xs)) c.mix-all.ensures ∙ sym (at_drop_more (mixed_all h) xs i 0 c.loop-number-test.true) ∙ c.loop-number.invariant
+folded : (h : ℕ) (xs : List ℕ) → fold mixed h xs ≡ mixed_all h xs
+folded h [] = refl
+folded h (x ∷ xs) = folded (mixed h x) xs
 
 pub returns : goal.returns
-returns c = sym (at_drop_all (mixed_all c.loop-number.all) c.args.numbers.now c.loop-number.number-index c.loop-number-test.false) ∙ c.loop-number.invariant
+returns c =
+    fold_from_yields_List _ mixed c.args.hash c.fold.result c.fold.ensures.ran (YieldsList-from_slice c.args.numbers.now c.iter.ensures.rest) (λ a x b q k. search (rules, tests))
+    ∙ folded c.args.hash c.args.numbers.now

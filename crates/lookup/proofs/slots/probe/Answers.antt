@@ -1,6 +1,5 @@
-use Rattle.std.proofs.Common.{◌≡◌, ℕ, suc, ◌+◌, ◌-◌, ◌<◌, ◌≤◌, length, sym, ap, ◌∙◌, arith, le-ltb, lt-ltb}
+use Rattle.std.proofs.Common.{◌≡◌, ℕ, suc, ◌+◌, ◌-◌, ◌<◌, ◌≤◌, length, None, sym, ap, ◌∙◌, arith, le-ltb, lt-ltb}
 use borrow.Author.Rules.{get_or_read}
-use Rattle.lookup.specs.declared.slot.Slot.TheVariants.{Free}
 use Rattle.lookup.specs.Slots.{probed_from, after}
 use Rattle.model.proofs.Keys.{same-is}
 use Rattle.lookup.proofs.Probed.{probe_none, probe_free, probe_found, probe_on}
@@ -20,10 +19,10 @@ next-out n i j h e = rw (le-ltb (i + 1) n h) e
 pub returns-then-n-eq0 : goal.returns-then-n-eq0
 returns-then-n-eq0 g c = record { within = tt; exact = rw c.if-n-eq0.true (sym (probe_none _ _ _ _)) }
 
-pub returns-in-Free : goal.returns-in-Free
-returns-in-Free g c =
+pub returns-in-None : goal.returns-in-None
+returns-in-None g c =
     let xs = c.args.slots.now in
-    let e = sym (get_or_read xs c.loop-turn.i c.index-slots-i.result c.loop-turn.invariant.0 c.index-slots-i.is Free) ∙ c.in-Free.is in
+    let e = sym (get_or_read xs c.loop-turn.i c.index-slots-i.result c.loop-turn.invariant.0 c.index-slots-i.is None) ∙ c.in-None.is in
     let w = probe_free g.K.Key.meaning xs (g.K.Key.meaning c.args.key.now) (length xs - (c.loop-turn.turn + 1)) c.loop-turn.i e in
     let s = ap (λ f. probed_from g.K.Key.meaning xs (g.K.Key.meaning c.args.key.now) f c.loop-turn.i) (left_one (length xs) c.loop-turn.turn c.loop-turn-test.true) in
     record { within = c.loop-turn.invariant.0; exact = sym w ∙ (sym s ∙ c.loop-turn.invariant.1) }
@@ -32,9 +31,9 @@ pub returns-then-same : goal.returns-then-same
 returns-then-same g c =
     let xs = c.args.slots.now in
     let m = g.K.Key.meaning c.args.key.now in
-    let e = sym (get_or_read xs c.loop-turn.i c.index-slots-i.result c.loop-turn.invariant.0 c.index-slots-i.is Free) ∙ c.in-Taken.is in
-    let q = same-is (g.K.Key.meaning c.in-Taken.k) m c.same.result c.same.ensures.yes c.same.ensures.no ∙ c.if-same.true in
-    let w = probe_found g.K.Key.meaning xs m (length xs - (c.loop-turn.turn + 1)) c.loop-turn.i c.in-Taken.k c.in-Taken.value e q in
+    let e = sym (get_or_read xs c.loop-turn.i c.index-slots-i.result c.loop-turn.invariant.0 c.index-slots-i.is None) ∙ c.in-Some.is in
+    let q = same-is (g.K.Key.meaning c.in-Some.k) m c.same.result c.same.ensures.yes c.same.ensures.no ∙ c.if-same.true in
+    let w = probe_found g.K.Key.meaning xs m (length xs - (c.loop-turn.turn + 1)) c.loop-turn.i c.in-Some.k c.in-Some.value e q in
     let s = ap (λ f. probed_from g.K.Key.meaning xs m f c.loop-turn.i) (left_one (length xs) c.loop-turn.turn c.loop-turn-test.true) in
     record { within = c.loop-turn.invariant.0; exact = sym w ∙ (sym s ∙ c.loop-turn.invariant.1) }
 
@@ -42,9 +41,9 @@ pub loop-turn-preserved : goal.loop-turn-preserved
 loop-turn-preserved g c =
     let xs = c.args.slots.now in
     let m = g.K.Key.meaning c.args.key.now in
-    let e = sym (get_or_read xs c.loop-turn.i c.index-slots-i.result c.loop-turn.invariant.0 c.index-slots-i.is Free) ∙ c.in-Taken.is in
-    let q = same-is (g.K.Key.meaning c.in-Taken.k) m c.same.result c.same.ensures.yes c.same.ensures.no ∙ c.if-same.false in
-    let w = probe_on g.K.Key.meaning xs m (length xs - (c.loop-turn.turn + 1)) c.loop-turn.i c.in-Taken.k c.in-Taken.value e q in
+    let e = sym (get_or_read xs c.loop-turn.i c.index-slots-i.result c.loop-turn.invariant.0 c.index-slots-i.is None) ∙ c.in-Some.is in
+    let q = same-is (g.K.Key.meaning c.in-Some.k) m c.same.result c.same.ensures.yes c.same.ensures.no ∙ c.if-same.false in
+    let w = probe_on g.K.Key.meaning xs m (length xs - (c.loop-turn.turn + 1)) c.loop-turn.i c.in-Some.k c.in-Some.value e q in
     let s = ap (λ f. probed_from g.K.Key.meaning xs m f c.loop-turn.i) (left_one (length xs) c.loop-turn.turn c.loop-turn-test.true) in
     let a : c.if-i-n.i ≡ after (length xs) c.loop-turn.i =
     elim c.if-i-n.branch [
