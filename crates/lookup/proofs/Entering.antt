@@ -4,9 +4,7 @@ use Rattle.std.proofs.lemmas.Option.{same_Some}
 use Rattle.std.proofs.lemmas.Bool.{cases_eq, eq-eqb, eqb-true}
 use Rattle.model.specs.Keys.{eq_list}
 use Rattle.model.proofs.Keys.{same_refl, same-eq}
-use Rattle.lookup.specs.declared.slot.Place.{Place}
-use Rattle.lookup.specs.declared.slot.Place.TheVariants.{Found, Open, Nowhere}
-use Rattle.lookup.specs.Slots.{Slot, probed_from, probed, found, value_at, after, judged}
+use Rattle.lookup.specs.Slots.{Place, Found, Open, Nowhere, Slot, probed_from, probed, found, value_at, after, judged}
 use Rattle.lookup.specs.Entries.{found_at, own, Tidy, with_entry}
 use Rattle.lookup.proofs.Probed.{probe_found}
 use Rattle.lookup.proofs.Passed.{found-has}

@@ -3,3 +3,4 @@ pub mod Passed
 pub mod Entering
 pub mod Standing
 pub mod Holding
+pub mod Ends

@@ -2,9 +2,7 @@
 use Rattle.std.proofs.Common.{◌≡◌, ℕ, zero, suc, ◌+◌, ◌-◌, ◌<◌, ◌≤◌, Bool, true, false, cond, List, length, get_or, sym, refl, ap, ◌∙◌, inl, inr, arith, Some, None}
 use Rattle.std.proofs.lemmas.Bool.{cases_eq, cases_lt, lt-ltb, le-ltb}
 use Rattle.model.specs.Keys.{eq_list}
-use Rattle.lookup.specs.declared.slot.Place.{Place}
-use Rattle.lookup.specs.declared.slot.Place.TheVariants.{Found, Nowhere}
-use Rattle.lookup.specs.Slots.{Slot, probed_from, after, judged, Inside}
+use Rattle.lookup.specs.Slots.{Place, Found, Nowhere, Slot, probed_from, after, judged, Inside}
 
 pub after_in : (n i : ℕ) → i + 1 < n → after n i ≡ i + 1
 after_in n i h = ap (λ t. cond t (i + 1) 0) (lt-ltb (i + 1) n h)

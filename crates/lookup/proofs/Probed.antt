@@ -1,8 +1,7 @@
 -- One step of a search, by what the slot holds.
 use Rattle.std.proofs.Common.{◌≡◌, ℕ, suc, true, false, List, length, get_or, refl, Some, None}
 use Rattle.model.specs.Keys.{eq_list}
-use Rattle.lookup.specs.declared.slot.Place.TheVariants.{Found, Open, Nowhere}
-use Rattle.lookup.specs.Slots.{Slot, probed_from, after}
+use Rattle.lookup.specs.Slots.{Found, Open, Nowhere, Slot, probed_from, after}
 
 module _ {K : Type 0} (mean : K → List ℕ) (slots : List (Slot K)) (m : List ℕ) where
   pub probe_none : (i : ℕ) → probed_from mean slots m 0 i ≡ Nowhere

@@ -4,10 +4,8 @@ use Rattle.std.proofs.lemmas.Bool.{lt-ltb, le-ltb}
 use Rattle.std.specs.Option.{option_to_list}
 use Rattle.model.specs.Keys.{eq_list}
 use Rattle.model.proofs.Keys.{first-none, first_one}
-use Rattle.lookup.specs.declared.slot.Place.{Place}
-use Rattle.lookup.specs.declared.slot.Place.TheVariants.{Found, Open, Nowhere}
 use Rattle.lookup.specs.declared.slot.NotEntered.TheVariants.{Full}
-use Rattle.lookup.specs.Slots.{Slot, probed, found, value_at, slots_after, answer_at, Inside}
+use Rattle.lookup.specs.Slots.{Place, Found, Open, Nowhere, Slot, probed, found, value_at, slots_after, answer_at, Inside}
 use Rattle.lookup.specs.Entries.{Tidy, taken_by, taken, answer_for, with_entry, Stands, Entry, entered, Holds, entries_after}
 use Rattle.lookup.proofs.Probed.{probe_none, probe_free}
 use Rattle.lookup.proofs.Passed.{inside-from, none_free}

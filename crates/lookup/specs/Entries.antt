@@ -1,11 +1,9 @@
 -- What the slots of a table stand for: which keys were entered, with which values.
 use Rattle.std.specs.Prelude.{◌≡◌, ℕ, suc, ◌+◌, Bool, true, cond, List, [], ◌∷◌, length, Some, None, Option, Ok, Err, Result, ⊤, ◌==◌, nat_lt, slice_index_or}
 use Rattle.model.specs.Keys.{eq_list, first_of}
-use Rattle.lookup.specs.declared.slot.Place.{Place}
-use Rattle.lookup.specs.declared.slot.Place.TheVariants.{Found, Open, Nowhere}
 use Rattle.lookup.specs.declared.slot.NotEntered.{NotEntered}
 use Rattle.lookup.specs.declared.slot.NotEntered.TheVariants.{AlreadyThere, Full}
-use Rattle.lookup.specs.Slots.{Slot, probed, found}
+use Rattle.lookup.specs.Slots.{Place, Found, Open, Nowhere, Slot, probed, found}
 
 -- 1 more than the slot that a search found, and 0 if it found none
 abbrev pub found_at : Place → ℕ

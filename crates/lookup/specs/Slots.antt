@@ -1,14 +1,18 @@
 -- Slot tables: the search for a meaning, what entering does, and which keys the slots stand for.
-use Rattle.std.specs.Prelude.{ℕ, zero, suc, ◌+◌, ◌<◌, cond, List, length, Some, None, Option, Ok, Err, Result, ⊤, nat_lt, slice_index_or, slice_set}
+use Rattle.std.specs.Prelude.{ℕ, zero, suc, ◌+◌, ◌<◌, Bool, true, cond, List, length, Some, None, Option, Ok, Err, Result, ⊤, nat_lt, slice_index_or, slice_set}
 use Rattle.model.specs.Keys.{eq_list}
-use Rattle.lookup.specs.declared.slot.Place.{Place}
-use Rattle.lookup.specs.declared.slot.Place.TheVariants.{Found, Open, Nowhere}
 use Rattle.lookup.specs.declared.slot.NotEntered.{NotEntered}
 use Rattle.lookup.specs.declared.slot.NotEntered.TheVariants.{AlreadyThere, Full}
 
 -- a slot: free, or taken by a key with its value
 abbrev pub Slot : Type 0 → Type 0
 Slot K = Option (K × ℕ)
+
+-- what a search comes to: the slot that has the key, with its value; the free slot that ended the search; or neither
+pub data Place : Type 0 where
+  Found : ℕ → ℕ → Place
+  Open : ℕ → Place
+  Nowhere : Place
 
 -- the slot after i, of n
 abbrev pub after : ℕ → ℕ → ℕ
@@ -27,6 +31,17 @@ probed_from mean slots m (suc f) i = judged mean m i (slice_index_or slots i Non
 -- the search for m through all slots; `first` gives its first slot
 abbrev pub probed : {K : Type 0} → (K → List ℕ) → (List ℕ → ℕ → ℕ) → List (Slot K) → List ℕ → Place
 probed mean first slots m = probed_from mean slots m (length slots) (first m (length slots))
+
+-- whether the search for m ends at a slot
+abbrev pub ends : {K : Type 0} → (K → List ℕ) → List ℕ → Slot K → Bool
+ends mean m None = true
+ends mean m (Some (k, v)) = eq_list (mean k) m
+
+-- the slot at which a search ended
+abbrev pub slot_at : Place → Option ℕ
+slot_at (Found i v) = Some i
+slot_at (Open i) = Some i
+slot_at Nowhere = None
 
 abbrev pub value_at : Place → Option ℕ
 value_at (Found i v) = Some v

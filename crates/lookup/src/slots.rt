@@ -1,31 +1,30 @@
-ghost use Rattle.std.specs.Prelude.{◌≡◌, ℕ, ◌<◌, length};
-ghost use Rattle.lookup.specs.Slots.{probed, slots_after, answer_at, Inside};
+ghost use Rattle.std.specs.Prelude.{◌≡◌, ℕ, ◌<◌, length, IfSome};
+ghost use Rattle.lookup.specs.Slots.{ends, probed, slot_at, slots_after, answer_at};
 
-use crate::key::HashedKey;
-use crate::slot::{NotEntered, Place, Slot};
+use crate::key::{HashedKey, Key};
+use crate::slot::{NotEntered, Slot};
 
-// Searches for a key from its first slot on, past the last slot to slot 0, through each slot at most once.
-pub(crate) fn probe<K: HashedKey>(slots: &[Slot<K>], key: &K) -> Place
-    ensures within { Inside (length slots.now) result }
-    ensures exact { result ≡ probed K.Key.meaning K.HashedKey.slot slots.now (K.Key.meaning key.now) }
+// Whether the search for a key ends at the slot, which then has the key or is free.
+fn is_end<K: Key>(slot: &Slot<K>, key: &K) -> bool
+    ensures { result ≡ ends K.Key.meaning (K.Key.meaning key.now) slot.now }
 {
-    let n = slots.len();
-    if n == 0 {
-        return Place::Nowhere;
+    match slot {
+        Some((k, _)) => k.same(key),
+        None => true,
     }
-    let mut i = key.first_slot(n);
-    for turn in 0..n {
-        match &slots[i] {
-            None => return Place::Open(i),
-            Some((k, value)) => {
-                if k.same(key) {
-                    return Place::Found(i, *value);
-                }
-            }
-        }
-        i = if i + 1 < n { i + 1 } else { 0 };
+}
+
+// The slot at which the search for a key ends. It goes from the key's first slot on, past the last slot to slot 0, through each slot at most once.
+pub(crate) fn probe<K: HashedKey>(slots: &[Slot<K>], key: &K) -> Option<usize>
+    ensures within { IfSome result (λ i. i < length slots.now) }
+    ensures exact { result ≡ slot_at (probed K.Key.meaning K.HashedKey.slot slots.now (K.Key.meaning key.now)) }
+{
+    let first = key.first_slot(slots.len());
+    let (before, from) = slots.split_at(first);
+    match from.iter().position(|slot| is_end(slot, key)) {
+        Some(turn) => Some(first + turn),
+        None => before.iter().position(|slot| is_end(slot, key)),
     }
-    Place::Nowhere
 }
 
 // Stores a key with its value in the free slot that ends the search for it.
@@ -37,12 +36,10 @@ pub(crate) fn store<K: HashedKey>(
     ensures slots { slots.new ≡ slots_after (probed K.Key.meaning K.HashedKey.slot slots.old (K.Key.meaning key)) slots.old key value }
     ensures answer { result ≡ answer_at (probed K.Key.meaning K.HashedKey.slot slots.old (K.Key.meaning key)) }
 {
-    match probe(slots, &key) {
-        Place::Found(_, _) => Err(NotEntered::AlreadyThere),
-        Place::Open(i) => {
-            slots[i] = Some((key, value));
-            Ok(())
-        }
-        Place::Nowhere => Err(NotEntered::Full),
+    let at = probe(slots, &key).ok_or(NotEntered::Full)?;
+    if slots[at].is_some() {
+        return Err(NotEntered::AlreadyThere);
     }
+    slots[at] = Some((key, value));
+    Ok(())
 }

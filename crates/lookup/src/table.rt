@@ -3,7 +3,7 @@ ghost use Rattle.lookup.specs.Slots.{probed, found, slots_after};
 ghost use Rattle.lookup.specs.Entries.{taken, answer_for, with_entry, Stands, Entry, entered, Holds, entries_after};
 
 use crate::key::HashedKey;
-use crate::slot::{NotEntered, Place, Slot};
+use crate::slot::{NotEntered, Slot};
 use crate::slots::{probe, store};
 
 // A look-up table over lent slots, for any hashed key.
@@ -29,10 +29,8 @@ impl<'a, K: HashedKey> SlotTable<'a, K> {
         ensures exact { result ≡ found K.Key.meaning K.HashedKey.slot self.now.slots.now (K.Key.meaning key.now) }
         ensures holds { (entries : List Entry) → Holds K.Key.meaning K.HashedKey.slot self.now.slots.now entries → result ≡ entered entries (K.Key.meaning key.now) }
     {
-        match probe(self.slots, key) {
-            Place::Found(_, value) => Some(value),
-            _ => None,
-        }
+        let at = probe(self.slots, key)?;
+        self.slots[at].map(|(_, value)| value)
     }
 
     // Enters a new key with its value, and says whether it did; if not, no slot changes.
