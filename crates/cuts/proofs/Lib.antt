@@ -2,7 +2,7 @@ pub mod Masks
 pub mod Edges
 pub mod United
 pub mod Bit
-pub mod Joins
 pub mod Same
 pub mod Keyed
 pub mod Formed
+pub mod Fronts

@@ -7,8 +7,6 @@ use Rattle.model.specs.Sessions.{positions}
 use Rattle.cuts.specs.Meaning.{meaning}
 use Rattle.cuts.specs.declared.outcome.Squeezed.{Squeezed}
 use Rattle.cuts.specs.declared.outcome.Squeezed.TheVariants as squeezed
-use Rattle.cuts.specs.declared.outcome.Joined.{Joined}
-use Rattle.cuts.specs.declared.outcome.Joined.TheVariants as joined
 
 -- a constant as a cut with no leaves: the same value in every row
 abbrev pub constant_of : Bool → Cut
@@ -18,10 +16,10 @@ abbrev pub squeezed_of : Squeezed → Cut
 squeezed_of (squeezed.Constant b) = constant_of b
 squeezed_of (squeezed.Cut c) = meaning c
 
-abbrev pub joined_of : Joined → Option Cut
-joined_of joined.TooWide = None
-joined_of (joined.Constant b) = Some (constant_of b)
-joined_of (joined.Cut c) = Some (meaning c)
+-- none where the leaves of both are more than the limit
+abbrev pub joined_of : Option Squeezed → Option Cut
+joined_of None = None
+joined_of (Some s) = Some (squeezed_of s)
 
 -- the stretched table, or none exactly where a leaf is missing among the new ones
 abbrev pub Stretches : Cut → List ℕ → Option ℕ → Type 0

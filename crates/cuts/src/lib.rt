@@ -20,9 +20,9 @@ mod words;
 
 pub use cut::Cut;
 pub use edge::Edge;
-pub use joining::join;
+pub use joining::{SignedCut, join};
 pub use key::CutKey;
 pub use leaves::Leaves;
-pub use outcome::{Joined, Squeezed};
+pub use outcome::Squeezed;
 pub use sizes::{MASKS, POSITIONS, Table};
 pub use words::is_masked;

@@ -17,13 +17,7 @@ use crate::words::{is_free, moved};
 fn depends_on_first(table: Table, count: usize) -> bool
     ensures { Decides result ((i : ℕ) → i < count → i < positions → masked positions table i ≡ false) }
 {
-    let mut all = true;
-    for position in 0..POSITIONS {
-        if position < count && is_free(table, position) {
-            all = false;
-        }
-    }
-    all
+    !(0..POSITIONS.min(count)).any(|position| is_free(table, position))
 }
 
 /// What is left of a table that looks at no position past the leaves.
@@ -37,9 +31,9 @@ fn drop_masked(leaves: &[u16], table: Table) -> Squeezed
     let mut found = [0; POSITIONS];
     let mut count = 0;
     let mut word = table;
-    for position in 0..leaves.len() {
+    for (position, leaf) in leaves.iter().enumerate() {
         if !is_free(table, position) {
-            found[count] = leaves[position];
+            found[count] = *leaf;
             word = moved(word, position, count);
             count += 1;
         }
@@ -76,11 +70,11 @@ impl Leaves {
     pub fn squeeze(&self, table: Table) -> Option<Squeezed>
         ensures { Squeezes (record { leaves = leaves_of self.now; table = table }) result }
     {
-        for position in self.len()..POSITIONS {
-            if !is_free(table, position) {
-                return None;
-            }
+        let fits = (self.len()..POSITIONS).all(|position| is_free(table, position));
+        if fits {
+            Some(squeeze(self, table))
+        } else {
+            None
         }
-        Some(squeeze(self, table))
     }
 }

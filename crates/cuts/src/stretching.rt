@@ -22,14 +22,13 @@ pub(crate) fn stretch(table: Table, old: &[u16], new: &[u16]) -> Table
     ensures { result ≡ stretched positions (record { leaves = old.now; table = table }) new.now }
 {
     let mut word = table;
-    let mut left = old.len();
-    let mut place = new.len();
-    while left < place {
-        place -= 1;
-        if left > 0 && old[left - 1] == new[place] {
-            left -= 1;
-            word = moved(word, left, place);
+    let (mut left, mut places) = (old, new);
+    while let ([before @ .., last], [below @ .., leaf]) = (left, places) {
+        if last == leaf {
+            word = moved(word, before.len(), below.len());
+            left = before;
         }
+        places = below;
     }
     word
 }

@@ -4,7 +4,7 @@
 
 mod plain;
 
-use cuts::{Cut, Joined, join};
+use cuts::{Cut, SignedCut, Squeezed, join};
 use plain::Plain;
 use std::io;
 
@@ -20,36 +20,39 @@ fn next(seed: u64) -> u64 {
 
 /// Two cuts with their signs, and a leaf limit.
 #[derive(Clone, Copy)]
-struct Pair {
-    a: Cut,
-    a_sign: bool,
-    b: Cut,
-    b_sign: bool,
+struct Pair<'a> {
+    a: SignedCut<'a>,
+    b: SignedCut<'a>,
     limit: usize,
 }
 
 /// The pair that a number picks, and a limit of 3 to 5.
-fn pick(pool: &[Cut; POOL], seed: u64) -> Pair {
+fn pick(pool: &[Cut; POOL], seed: u64) -> Pair<'_> {
     Pair {
-        a: pool[(seed >> 40) as usize % POOL],
-        a_sign: seed >> 50 & 1 == 1,
-        b: pool[(seed >> 33) as usize % POOL],
-        b_sign: seed >> 51 & 1 == 1,
+        a: SignedCut {
+            cut: &pool[(seed >> 40) as usize % POOL],
+            sign: seed >> 50 & 1 == 1,
+        },
+        b: SignedCut {
+            cut: &pool[(seed >> 33) as usize % POOL],
+            sign: seed >> 51 & 1 == 1,
+        },
         limit: (seed >> 52) as usize % 3 + 3,
     }
 }
 
 /// Whether both joinings come to the same.
-fn agree(joined: &Joined, plain: &Plain) -> bool {
-    match joined {
-        Joined::TooWide => plain.too_wide(),
-        Joined::Constant(value) => plain.is_constant(*value),
-        Joined::Cut(cut) => plain.is_cut(cut),
+fn agree(joined: Option<Squeezed>, plain: Option<Plain>) -> bool {
+    match (joined, plain) {
+        (None, None) => true,
+        (Some(Squeezed::Constant(value)), Some(plain)) => plain.is_constant(value),
+        (Some(Squeezed::Cut(cut)), Some(plain)) => plain.is_cut(&cut),
+        _ => false,
     }
 }
 
 /// How many joins came to what.
-#[derive(Clone, Copy)]
+#[derive(Clone, Copy, Default)]
 struct Tally {
     agreed: u64,
     wide: u64,
@@ -57,44 +60,37 @@ struct Tally {
     cut: u64,
 }
 
-fn counted(tally: Tally, joined: &Joined, agreed: bool) -> Tally {
-    let mut next = tally;
-    if agreed {
-        next.agreed = tally.agreed.wrapping_add(1);
+impl Tally {
+    fn count(&mut self, joined: Option<Squeezed>, agreed: bool) {
+        let outcome = match joined {
+            None => &mut self.wide,
+            Some(Squeezed::Constant(_)) => &mut self.constant,
+            Some(Squeezed::Cut(_)) => &mut self.cut,
+        };
+        *outcome = outcome.saturating_add(1);
+        self.agreed = self.agreed.saturating_add(u64::from(agreed));
     }
-    match joined {
-        Joined::TooWide => next.wide = tally.wide.wrapping_add(1),
-        Joined::Constant(_) => next.constant = tally.constant.wrapping_add(1),
-        Joined::Cut(_) => next.cut = tally.cut.wrapping_add(1),
-    }
-    next
 }
 
 /// The trivial cuts of six nodes, some places each; later joins take the places one after another.
 fn trivial_cuts() -> [Cut; POOL] {
     let mut pool = [Cut::trivial(1); POOL];
-    for place in 0..POOL {
-        pool[place] = Cut::trivial((place % 6 + 1) as u16);
+    for (place, cut) in pool.iter_mut().enumerate() {
+        *cut = Cut::trivial((place % 6 + 1) as u16);
     }
     pool
 }
 
 fn compare() -> Tally {
     let mut pool = trivial_cuts();
-    let mut tally = Tally {
-        agreed: 0,
-        wide: 0,
-        constant: 0,
-        cut: 0,
-    };
+    let mut tally = Tally::default();
     let mut seed = 1;
     for turn in 0..JOINS {
         seed = next(seed);
         let p = pick(&pool, seed);
-        let joined = join(&p.a, p.a_sign, &p.b, p.b_sign, p.limit);
-        let plain = Plain::join(&p.a, p.a_sign, &p.b, p.b_sign, p.limit);
-        tally = counted(tally, &joined, agree(&joined, &plain));
-        if let Joined::Cut(cut) = joined {
+        let joined = join(p.a, p.b, p.limit);
+        tally.count(joined, agree(joined, Plain::join(p.a, p.b, p.limit)));
+        if let Some(Squeezed::Cut(cut)) = joined {
             pool[turn % POOL] = cut;
         }
     }

@@ -1,148 +1,127 @@
 //! Joining by the rules as they are told, one bit after another. It shares nothing with the proved joining but the cuts themselves.
-use cuts::Cut;
+use cuts::{Cut, SignedCut};
 
 /// Nodes are below this number.
 const NODES: usize = 16;
 
-const ROWS: u32 = 16;
+/// No cut has more leaves.
+const LEAVES: usize = 4;
 
-/// Which nodes are leaves, and the table over them in rising number.
+const ROWS: usize = 16;
+
+/// Which nodes are leaves, and the table over them in rising number, in the low bits of a word.
 #[derive(Clone, Copy)]
 pub struct Plain {
-    wide: bool,
     leaves: [bool; NODES],
-    table: u16,
+    table: usize,
 }
 
-fn bit(word: u32, place: u32) -> bool {
-    word.wrapping_shr(place) & 1 == 1
+/// The word with one bit, at a place; places are below 16.
+fn bit_at(place: usize) -> usize {
+    1 << (place % 16)
+}
+
+fn bit(word: usize, place: usize) -> bool {
+    word & bit_at(place) != 0
 }
 
 /// How many of the leaves come before a node.
-fn position(leaves: &[bool; NODES], node: usize) -> u32 {
-    let mut place = 0u32;
-    for n in 0..NODES {
-        if n < node && leaves[n] {
-            place = place.wrapping_add(1);
-        }
-    }
-    place
+fn position(leaves: &[bool; NODES], node: usize) -> usize {
+    leaves.iter().take(node).filter(|leaf| **leaf).count()
 }
 
 fn mark(leaves: &mut [bool; NODES], cut: &Cut) {
     for leaf in cut.leaves() {
-        if (*leaf as usize) < NODES {
-            leaves[*leaf as usize] = true;
+        if let Some(marked) = leaves.get_mut(usize::from(*leaf)) {
+            *marked = true;
         }
     }
 }
 
-/// The value of a cut in a row over other leaves: each old position has the bit of the row at its leaf's new position.
-fn value(cut: &Cut, leaves: &[bool; NODES], row: u32) -> bool {
-    let mut index = 0u32;
-    let mut place = 0u32;
-    for leaf in cut.leaves() {
-        if bit(row, position(leaves, *leaf as usize)) {
-            index |= 1u32.wrapping_shl(place);
-        }
-        place = place.wrapping_add(1);
-    }
-    bit(cut.table() as u32, index)
+/// The table that says in each row what the function says.
+fn tabulate<F: Fn(usize) -> bool>(f: F) -> usize
+    requires { F.IsAlwaysCallable f }
+{
+    (0..ROWS)
+        .filter(|row| f(*row))
+        .fold(0, |table, row| table | bit_at(row))
+}
+
+/// The value of an edge in a row over other leaves: each old position has the bit of the row at its leaf's new position.
+fn value(edge: SignedCut, leaves: &[bool; NODES], row: usize) -> bool {
+    let index = edge
+        .cut
+        .leaves()
+        .iter()
+        .enumerate()
+        .filter(|(_, leaf)| bit(row, position(leaves, usize::from(**leaf))))
+        .fold(0, |index, (place, _)| index | bit_at(place));
+    bit(usize::from(edge.cut.table()), index) != edge.sign
 }
 
 /// Whether changing the bit at a position never changes the table.
-fn is_masked(table: u32, place: u32) -> bool {
-    let mut same = true;
-    for row in 0..ROWS {
-        if bit(table, row) != bit(table, row ^ 1u32.wrapping_shl(place)) {
-            same = false;
-        }
-    }
-    same
+fn is_masked(table: usize, place: usize) -> bool {
+    (0..ROWS).all(|row| bit(table, row) == bit(table, row ^ bit_at(place)))
 }
 
 /// The leaves that are not masked.
-fn needed(leaves: &[bool; NODES], table: u32) -> [bool; NODES] {
+fn needed(leaves: &[bool; NODES], table: usize) -> [bool; NODES] {
     let mut kept = *leaves;
-    for n in 0..NODES {
-        if leaves[n] && is_masked(table, position(leaves, n)) {
-            kept[n] = false;
-        }
+    for (node, keep) in kept.iter_mut().enumerate() {
+        *keep = *keep && !is_masked(table, position(leaves, node));
     }
     kept
 }
 
 /// The row of the old table for a row over the kept leaves; a masked leaf may have any value there.
-fn old_row(leaves: &[bool; NODES], kept: &[bool; NODES], row: u32) -> u32 {
-    let mut index = 0u32;
-    for n in 0..NODES {
-        if kept[n] && bit(row, position(kept, n)) {
-            index |= 1u32.wrapping_shl(position(leaves, n));
+fn old_row(leaves: &[bool; NODES], kept: &[bool; NODES], row: usize) -> usize {
+    let mut index = 0;
+    for (node, keep) in kept.iter().enumerate() {
+        if *keep && bit(row, position(kept, node)) {
+            index |= bit_at(position(leaves, node));
         }
     }
     index
 }
 
 impl Plain {
-    pub(crate) fn join(a: &Cut, a_sign: bool, b: &Cut, b_sign: bool, limit: usize) -> Plain {
+    /// None where there are more leaves than the limit.
+    pub(crate) fn join(a: SignedCut, b: SignedCut, limit: usize) -> Option<Plain> {
         let mut leaves = [false; NODES];
-        mark(&mut leaves, a);
-        mark(&mut leaves, b);
-        let most = if limit < 4 { limit } else { 4 };
-        if position(&leaves, NODES) as usize > most {
-            return Plain {
-                wide: true,
-                leaves,
-                table: 0,
-            };
+        mark(&mut leaves, a.cut);
+        mark(&mut leaves, b.cut);
+        if position(&leaves, NODES) > limit.min(LEAVES) {
+            return None;
         }
-        let mut table = 0u32;
-        for row in 0..ROWS {
-            let (x, y) = (value(a, &leaves, row), value(b, &leaves, row));
-            if x != a_sign && y != b_sign {
-                table |= 1u32.wrapping_shl(row);
-            }
-        }
-        Plain::squeezed(&leaves, table)
+        let table = tabulate(|row| value(a, &leaves, row) && value(b, &leaves, row));
+        Some(Plain::squeezed(&leaves, table))
     }
 
-    fn squeezed(leaves: &[bool; NODES], table: u32) -> Plain {
+    fn squeezed(leaves: &[bool; NODES], table: usize) -> Plain {
         let kept = needed(leaves, table);
-        let mut word = 0u16;
-        for row in 0..ROWS {
-            if bit(table, old_row(leaves, &kept, row)) {
-                word |= 1u16.wrapping_shl(row);
-            }
-        }
         Plain {
-            wide: false,
             leaves: kept,
-            table: word,
+            table: tabulate(|row| bit(table, old_row(leaves, &kept, row))),
         }
-    }
-
-    pub(crate) fn too_wide(&self) -> bool {
-        self.wide
     }
 
     pub(crate) fn is_constant(&self, value: bool) -> bool {
-        let table = if value { u16::MAX } else { 0 };
-        !self.wide && position(&self.leaves, NODES) == 0 && self.table == table
+        position(&self.leaves, NODES) == 0 && self.table == tabulate(|_| value)
     }
 
     /// The same leaves in the same order, and the same table.
     pub(crate) fn is_cut(&self, cut: &Cut) -> bool {
-        let mut same = !self.wide
-            && self.table == cut.table()
-            && position(&self.leaves, NODES) as usize == cut.leaf_count();
-        let mut place = 0u32;
-        for leaf in cut.leaves() {
-            let n = *leaf as usize;
-            if n >= NODES || !self.leaves[n] || position(&self.leaves, n) != place {
-                same = false;
-            }
-            place = place.wrapping_add(1);
-        }
-        same
+        self.table == usize::from(cut.table())
+            && position(&self.leaves, NODES) == cut.leaf_count()
+            && cut
+                .leaves()
+                .iter()
+                .enumerate()
+                .all(|(place, leaf)| self.has_at(usize::from(*leaf), place))
+    }
+
+    /// Whether the node is the leaf at a position.
+    fn has_at(&self, node: usize, place: usize) -> bool {
+        self.leaves.get(node).copied().unwrap_or(false) && position(&self.leaves, node) == place
     }
 }

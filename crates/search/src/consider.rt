@@ -6,13 +6,13 @@ ghost use Rattle.cuts.specs.Outcomes.{joined_of};
 ghost use Rattle.search.specs.Finding.{told, look_in, places_of, listed};
 
 use crate::decision::Existing;
-use cuts::{Cut, CutKey, Edge, Joined};
+use cuts::{Cut, CutKey, Edge, Squeezed};
 use lookup::{DistinctList, SlotTable};
 
 /// What a joined pair does to the search: it is passed over, ends the search, or is a candidate if its key is new.
 pub(crate) fn consider(
     keys: &SlotTable<CutKey>,
-    joined: Joined,
+    joined: Option<Squeezed>,
     found: &mut DistinctList<Cut>,
 ) -> Option<Existing>
     requires { found.old.count < places_of found.old }
@@ -20,10 +20,9 @@ pub(crate) fn consider(
     ensures next { found.new.count ≤ found.old.count + 1 }
     ensures is { told result (listed found.new) ≡ considered positions (look_in keys.now) (joined_of joined) (listed found.old) }
 {
-    match joined {
-        Joined::TooWide => None,
-        Joined::Constant(sign) => Some(Existing::Folded { node: 0, sign }),
-        Joined::Cut(cut) => {
+    match joined? {
+        Squeezed::Constant(sign) => Some(Existing::Folded { node: 0, sign }),
+        Squeezed::Cut(cut) => {
             let (key, sign) = cut.key();
             if cut.leaf_count() == 1 {
                 return Some(Existing::Folded {

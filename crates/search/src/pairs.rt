@@ -12,7 +12,7 @@ use crate::consider::consider;
 use crate::decision::Existing;
 use crate::fanin::Fanin;
 use crate::sizes::KEPT;
-use cuts::{Cut, CutKey, join};
+use cuts::{Cut, CutKey, SignedCut, join};
 use lookup::{DistinctList, SlotTable};
 
 impl<'a> Fanin<'a> {
@@ -40,8 +40,7 @@ impl<'a> Fanin<'a> {
 /// Joins a cut, under a sign, with each cut of the fanin until a pair ends the search.
 fn search_row(
     keys: &SlotTable<CutKey>,
-    cut: &Cut,
-    sign: bool,
+    x: SignedCut,
     y: &Fanin,
     limit: usize,
     found: &mut DistinctList<Cut>,
@@ -50,10 +49,14 @@ fn search_row(
     ensures room { places_of found.new ≡ places_of found.old }
     ensures next { found.new.count ≤ found.old.count + most_cuts }
     ensures is { told result (listed found.new)
-        ≡ search_row positions (look_in keys.now) (joined positions (min limit positions) sign (sign_of y.now.edge.number)) (cuts_of y.now) (meaning cut.now) (listed found.old) }
+        ≡ search_row positions (look_in keys.now) (joined positions (min limit positions) x.entry.sign (sign_of y.now.edge.number)) (cuts_of y.now) (meaning x.entry.cut.now) (listed found.old) }
 {
     for place in 0..y.cut_count() {
-        let joined = join(cut, sign, &y.cut_at(place), y.edge.sign(), limit);
+        let b = SignedCut {
+            cut: &y.cut_at(place),
+            sign: y.edge.sign(),
+        };
+        let joined = join(x, b, limit);
         match consider(keys, joined, found) {
             Some(edge) => return Some(edge),
             None => {}
@@ -75,7 +78,11 @@ pub(crate) fn search_cuts(
         ≡ search_all positions (look_in keys.now) (joined positions (min limit positions) (sign_of x.now.edge.number) (sign_of y.now.edge.number)) (cuts_of x.now) (cuts_of y.now) (listed found.old) }
 {
     for place in 0..x.cut_count() {
-        match search_row(keys, &x.cut_at(place), x.edge.sign(), y, limit, found) {
+        let a = SignedCut {
+            cut: &x.cut_at(place),
+            sign: x.edge.sign(),
+        };
+        match search_row(keys, a, y, limit, found) {
             Some(edge) => return Some(edge),
             None => {}
         }

@@ -1,4 +1,4 @@
-use Rattle.std.proofs.Common.{◌≤◌, map, length, take, sym, ap, ◌∙◌, arith, rules}
+use Rattle.std.proofs.Common.{◌≤◌, map, length, take, Some, sym, ap, ◌∙◌, arith, rules}
 use Rattle.std.proofs.lemmas.List.{length-take-le}
 use Rattle.model.specs.Cuts.{key_list}
 use Rattle.model.specs.Edges.{signed}
@@ -24,7 +24,7 @@ returns-in-None c =
       is = ap (λ xs. candidates (map meaning xs)) (c.add.ensures.adds ∙ room_adds (places_of d) (λ c. key_list positions (meaning c)) c.in-Cut.cut xs (omega (arith, c.requires, length-take-le d.count d.places.now d.within)))
           ∙ ap candidates (added-map meaning (key_list positions) c.in-Cut.cut xs)
           ∙ wide positions look cut _ (listed d) two (c.in-None.ensures.exact ∙ ap look c.key-sign.ensures.key)
-          ∙ ap (λ j. considered positions look (joined_of j) (listed d)) (sym c.in-Cut.is);
+          ∙ ap (λ j. considered positions look (joined_of j) (listed d)) (sym (c.in_ok-sign.was ∙ ap Some c.in-Cut.is));
     }
 
 pub returns-in-Some : goal.returns-in-Some
@@ -38,5 +38,5 @@ returns-in-Some c =
       next = search rules;
       is = ap (λ n. ended (merged n)) (c.complement_if.ensures ∙ ap (λ n. signed n c.key-sign.result.1) c.new.ensures ∙ ap (signed c.in-Some.edge) c.key-sign.ensures.sign)
           ∙ wide positions look cut _ (listed d) two (c.in-Some.ensures.exact ∙ ap look c.key-sign.ensures.key)
-          ∙ ap (λ j. considered positions look (joined_of j) (listed d)) (sym c.in-Cut.is);
+          ∙ ap (λ j. considered positions look (joined_of j) (listed d)) (sym (c.in_ok-sign.was ∙ ap Some c.in-Cut.is));
     }

@@ -14,15 +14,15 @@ returns-in-Some c =
     let keys = c.args.keys.now in
     let y = c.args.y.now in
     let limit = c.args.limit in
-    let a = meaning c.args.cut.now in
+    let a = meaning c.args.x.cut.now in
     let b = meaning c.cut_at.result in
     let found = listed c.loop-place.found in
     let e = c.in-Some.ensures.is
-    ∙ ap (λ j. considered positions (look_in keys) j found) (c.join-joined.ensures ∙ ap (λ t. joined positions (min limit positions) c.args.sign t a b) c.sign.ensures) in
+    ∙ ap (λ j. considered positions (look_in keys) j found) (c.join-joined.ensures ∙ ap (λ t. joined positions (min limit positions) c.args.x.sign t a b) c.sign.ensures) in
     record {
       room = c.consider.ensures.room ∙ c.loop-place.invariant.0;
       next = omega (arith, c.consider.ensures.next, c.loop-place.invariant.1, c.cut_count-place-end.ensures.few);
-      is = sym (along_ends (pair_step keys c.args.sign y limit a) (cuts_of y) c.loop-place.place b found _ (omega arith) c.cut_at.ensures (sym e)) ∙ c.loop-place.invariant.2;
+      is = sym (along_ends (pair_step keys c.args.x.sign y limit a) (cuts_of y) c.loop-place.place b found _ (omega arith) c.cut_at.ensures (sym e)) ∙ c.loop-place.invariant.2;
     }
 
 pub loop-place-preserved : goal.loop-place-preserved
@@ -30,14 +30,14 @@ loop-place-preserved c =
     let keys = c.args.keys.now in
     let y = c.args.y.now in
     let limit = c.args.limit in
-    let a = meaning c.args.cut.now in
+    let a = meaning c.args.x.cut.now in
     let b = meaning c.cut_at.result in
     let found = listed c.loop-place.found in
     let e = c.in-None.ensures.is
-    ∙ ap (λ j. considered positions (look_in keys) j found) (c.join-joined.ensures ∙ ap (λ t. joined positions (min limit positions) c.args.sign t a b) c.sign.ensures) in (
+    ∙ ap (λ j. considered positions (look_in keys) j found) (c.join-joined.ensures ∙ ap (λ t. joined positions (min limit positions) c.args.x.sign t a b) c.sign.ensures) in (
       c.consider.ensures.room ∙ c.loop-place.invariant.0,
       omega (arith, c.consider.ensures.next, c.loop-place.invariant.1),
-      sym (along-more (pair_step keys c.args.sign y limit a) (cuts_of y) c.loop-place.place b found _ (omega arith) c.cut_at.ensures (sym e)) ∙ c.loop-place.invariant.2,
+      sym (along-more (pair_step keys c.args.x.sign y limit a) (cuts_of y) c.loop-place.place b found _ (omega arith) c.cut_at.ensures (sym e)) ∙ c.loop-place.invariant.2,
     )
 
 pub returns : goal.returns
@@ -46,5 +46,5 @@ returns c =
     record {
       room = c.loop-place.invariant.0;
       next = omega (arith, c.loop-place.invariant.1, c.cut_count-place-end.ensures.few);
-      is = sym (along-all (pair_step c.args.keys.now c.args.sign y c.args.limit (meaning c.args.cut.now)) (cuts_of y) c.loop-place.place (listed c.loop-place.found) (omega arith)) ∙ c.loop-place.invariant.2;
+      is = sym (along-all (pair_step c.args.keys.now c.args.x.sign y c.args.limit (meaning c.args.x.cut.now)) (cuts_of y) c.loop-place.place (listed c.loop-place.found) (omega arith)) ∙ c.loop-place.invariant.2;
     }

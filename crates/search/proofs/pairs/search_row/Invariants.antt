@@ -10,5 +10,5 @@ abbrev pub invariant-loop-place : goal.invariant-loop-place
 invariant-loop-place l =
     (places_of l.found ≡ places_of l.initial.found)
     × (l.found.count ≤ l.initial.found.count + l.place)
-    × (along (pair_step l.keys l.sign l.y l.limit (meaning l.cut)) (drop l.place (cuts_of l.y)) (listed l.found)
-    ≡ along (pair_step l.keys l.sign l.y l.limit (meaning l.cut)) (cuts_of l.y) (listed l.initial.found))
+    × (along (pair_step l.keys l.x.sign l.y l.limit (meaning l.x.cut.now)) (drop l.place (cuts_of l.y)) (listed l.found)
+    ≡ along (pair_step l.keys l.x.sign l.y l.limit (meaning l.x.cut.now)) (cuts_of l.y) (listed l.initial.found))
