@@ -1,15 +1,12 @@
 //! Keys of cuts in look-up tables, and cuts told apart by their keys.
 ghost use Rattle.model.specs.Cuts.{key_list};
 ghost use Rattle.model.specs.Sessions.{positions};
-ghost use Rattle.lookup.specs.Hash.{hashed_slot};
 ghost use Rattle.cuts.specs.Meaning.{meaning as meant};
 ghost use Rattle.cuts.specs.Keys.{key_meaning};
-ghost use Rattle.lookup.specs.Mixing.{slot_within};
-ghost use Rattle.std.proofs.Common.{rules};
 
 use crate::cut::Cut;
 use crate::key::CutKey;
-use lookup::{HashedKey, Key, mix, mix_all, slot_of};
+use lookup::{Key, MixedKey, mix, mix_all};
 
 impl Key for CutKey {
     ghost meaning = { key_meaning };
@@ -19,15 +16,9 @@ impl Key for CutKey {
     }
 }
 
-impl HashedKey for CutKey {
-    ghost slot = { hashed_slot };
-
-    ghost within = { λ m n h. slot_within m n h };
-
-    ghost none = { Prim.search rules };
-
-    fn first_slot(&self, slots: usize) -> usize {
-        slot_of(mix_all(mix(0, self.table()), self.leaves()), slots)
+impl MixedKey for CutKey {
+    fn hash(&self) -> u64 {
+        mix_all(mix(0, self.table()), self.leaves())
     }
 }
 
@@ -40,14 +31,8 @@ impl Key for Cut {
     }
 }
 
-impl HashedKey for Cut {
-    ghost slot = { hashed_slot };
-
-    ghost within = { λ m n h. slot_within m n h };
-
-    ghost none = { Prim.search rules };
-
-    fn first_slot(&self, slots: usize) -> usize {
-        self.key().0.first_slot(slots)
+impl MixedKey for Cut {
+    fn hash(&self) -> u64 {
+        self.key().0.hash()
     }
 }
