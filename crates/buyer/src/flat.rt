@@ -11,7 +11,7 @@ pub struct Flat;
 impl Ranking for Flat {
     const INPUTS_FIRST: bool = false;
 
-    ghost mark = { false };
+    ghost INPUTS_FIRST = { false };
 
     ghost before = { λ _. by_nothing };
 
@@ -22,10 +22,6 @@ impl Ranking for Flat {
     ghost ties = { Prim.search rules };
 
     ghost inputs = { Prim.search rules };
-
-    fn mark() -> bool {
-        Self::INPUTS_FIRST
-    }
 
     fn ranks_before(&self, _a: &CutFacts, _b: &CutFacts) -> bool {
         false

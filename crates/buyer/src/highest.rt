@@ -26,7 +26,7 @@ fn highest_leaf(cut: &CutFacts) -> u16
 impl Ranking for ByHighest {
     const INPUTS_FIRST: bool = true;
 
-    ghost mark = { true };
+    ghost INPUTS_FIRST = { true };
 
     ghost before = { λ _. by_highest };
 
@@ -37,10 +37,6 @@ impl Ranking for ByHighest {
     ghost ties = { Prim.search rules };
 
     ghost inputs = { λ _ s a b _ _ none some. lt-ltb _ _ (omega (arith, highest_none a none, highest_some b some)) };
-
-    fn mark() -> bool {
-        Self::INPUTS_FIRST
-    }
 
     fn ranks_before(&self, a: &CutFacts, b: &CutFacts) -> bool {
         highest_leaf(a) < highest_leaf(b)

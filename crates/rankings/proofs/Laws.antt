@@ -7,7 +7,7 @@ use Rattle.rankings.specs.declared.facts.CutFacts.{CutFacts}
 use Rattle.rankings.specs.Facts.{leaf_of, facts_of}
 
 -- In a proof of code generic over R: let m = g.met.R.Ranking in
--- lawful-from g.R.Ranking.before g.R.Ranking.mark m.irreflexive m.transitive m.ties m.inputs by
+-- lawful-from g.R.Ranking.before g.R.Ranking.INPUTS_FIRST m.irreflexive m.transitive m.ties m.inputs by
 pub lawful-from : {S : Type 0} (before : S → Before) (mark : Bool)
     → ((s : S) (a : Facts) → Sized positions a → before s a a ≡ false)
     → ((s : S) (a b c : Facts) → Sized positions a → Sized positions b → Sized positions c

@@ -20,7 +20,7 @@ pub struct ByHeight;
 impl Ranking for ByHeight {
     const INPUTS_FIRST: bool = true;
 
-    ghost mark = { true };
+    ghost INPUTS_FIRST = { true };
 
     ghost before = { λ _. by_height };
 
@@ -40,10 +40,6 @@ impl Ranking for ByHeight {
         let h : 0 < heights b * length a = mul-pos (heights_some b some) sa.0 in
         lt-ltb _ _ (omega arith) };
 
-    fn mark() -> bool {
-        Self::INPUTS_FIRST
-    }
-
     fn ranks_before(&self, a: &CutFacts, b: &CutFacts) -> bool {
         sum::<Height>(a) * (b.leaves().len() as u32) < sum::<Height>(b) * (a.leaves().len() as u32)
     }
@@ -56,7 +52,7 @@ pub struct ByGateLeaves;
 impl Ranking for ByGateLeaves {
     const INPUTS_FIRST: bool = true;
 
-    ghost mark = { true };
+    ghost INPUTS_FIRST = { true };
 
     ghost before = { λ _. by_gate_leaves };
 
@@ -67,10 +63,6 @@ impl Ranking for ByGateLeaves {
     ghost ties = { Prim.search rules };
 
     ghost inputs = { λ _ s a b _ _ none some. lt-ltb _ _ (omega (arith, gates_none a none, gates_some b some)) };
-
-    fn mark() -> bool {
-        Self::INPUTS_FIRST
-    }
 
     fn ranks_before(&self, a: &CutFacts, b: &CutFacts) -> bool {
         sum::<GateLeaf>(a) < sum::<GateLeaf>(b)
@@ -84,7 +76,7 @@ pub struct ByUses;
 impl Ranking for ByUses {
     const INPUTS_FIRST: bool = false;
 
-    ghost mark = { false };
+    ghost INPUTS_FIRST = { false };
 
     ghost before = { λ _. by_uses };
 
@@ -95,10 +87,6 @@ impl Ranking for ByUses {
     ghost ties = { Prim.search rules };
 
     ghost inputs = { Prim.search rules };
-
-    fn mark() -> bool {
-        Self::INPUTS_FIRST
-    }
 
     fn ranks_before(&self, a: &CutFacts, b: &CutFacts) -> bool {
         sum::<Share>(a) < sum::<Share>(b)

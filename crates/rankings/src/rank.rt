@@ -6,17 +6,13 @@ ghost use Rattle.rankings.specs.Facts.{facts_of};
 
 use crate::facts::CutFacts;
 
-// `before` is its meaning. `INPUTS_FIRST` is its mark: what the laws know of it is `mark`, and the function `mark` ties the two.
+// `before` is its meaning. `INPUTS_FIRST` is its mark, on which the law `inputs` is conditional.
 pub trait Ranking {
     const INPUTS_FIRST: bool;
 
-    ghost mark: { Bool };
+    ghost INPUTS_FIRST: { Bool };
 
     ghost before: { Self → Facts → Facts → Bool };
-
-    // The body is `Self::INPUTS_FIRST` in each kind.
-    fn mark() -> bool
-        ensures { result ≡ mark };
 
     fn ranks_before(&self, a: &CutFacts, b: &CutFacts) -> bool
         ensures { result ≡ before self.now (facts_of a.now) (facts_of b.now) };
@@ -28,13 +24,13 @@ pub trait Ranking {
     ghost ties: { (s : Self) (a b c : Facts) → Sized positions a → Sized positions b → Sized positions c → before s a b ≡ false → before s b a ≡ false → before s b c ≡ false → before s c b ≡ false → before s a c ≡ false };
 
     // with the mark set, a cut of inputs alone ranks before any cut with a higher leaf
-    ghost inputs: { mark ≡ true → (s : Self) (a b : Facts) → Sized positions a → Sized positions b → any_gate a ≡ false → any_gate b ≡ true → before s a b ≡ true };
+    ghost inputs: { INPUTS_FIRST ≡ true → (s : Self) (a b : Facts) → Sized positions a → Sized positions b → any_gate a ≡ false → any_gate b ≡ true → before s a b ≡ true };
 }
 
 // Every ranking keeps the laws of the model; the answer is its mark.
 pub fn keeps_the_laws<R: Ranking>(by: &R) -> bool
-    ensures laws { Lawful positions (R.Ranking.before by.now) R.Ranking.mark }
-    ensures is { result ≡ R.Ranking.mark }
+    ensures laws { Lawful positions (R.Ranking.before by.now) R.Ranking.INPUTS_FIRST }
+    ensures is { result ≡ R.Ranking.INPUTS_FIRST }
 {
-    R::mark()
+    R::INPUTS_FIRST
 }

@@ -5,6 +5,6 @@ pub returns : goal.returns
 returns g c =
     let m = g.met.R.Ranking in
     record {
-      laws = lawful-from g.R.Ranking.before g.R.Ranking.mark m.irreflexive m.transitive m.ties m.inputs c.args.by.now;
-      is = c.mark.ensures;
+      laws = lawful-from g.R.Ranking.before g.R.Ranking.INPUTS_FIRST m.irreflexive m.transitive m.ties m.inputs c.args.by.now;
+      is = c.INPUTS_FIRST.ensures;
     }
