@@ -14,13 +14,7 @@ pub struct ByHighest;
 fn highest_leaf(cut: &CutFacts) -> u16
     ensures { result ≡ highest (facts_of cut.now) }
 {
-    let mut top = 0;
-    for leaf in cut.leaves() {
-        if top < leaf.height {
-            top = leaf.height;
-        }
-    }
-    top
+    cut.leaves().iter().map(|leaf| leaf.height).max().unwrap_or(0)
 }
 
 impl Ranking for ByHighest {

@@ -7,15 +7,22 @@ ghost use Rattle.buyer.specs.Picks.{numbered, first_of_three};
 use crate::flat::Flat;
 use rankings::{Candidate, CutFacts, Ranking, Shortlist, choose};
 
+// The three cuts, numbered from 0 in the order in which they were found.
+fn numbered(a: CutFacts, b: CutFacts, c: CutFacts) -> [Candidate<u8>; 3]
+    ensures { result ≡ numbered a b c }
+{
+    [
+        Candidate { item: 0, facts: a },
+        Candidate { item: 1, facts: b },
+        Candidate { item: 2, facts: c },
+    ]
+}
+
 // The number of the first of three cuts.
 pub fn pick<R: Ranking>(by: &R, a: CutFacts, b: CutFacts, c: CutFacts) -> u8
     ensures { result ∷ [] ≡ first_of_three (R.Ranking.before by.now) 1 a b c }
 {
-    let candidates = [
-        Candidate { item: 0, facts: a },
-        Candidate { item: 1, facts: b },
-        Candidate { item: 2, facts: c },
-    ];
+    let candidates = numbered(a, b, c);
     let mut places = [candidates[0]];
     let _ = choose(by, &candidates, &mut places);
     places[0].item

@@ -9,10 +9,7 @@ fn leaf(height: u16, uses: u16) -> LeafFacts {
 }
 
 fn cut(leaves: &[LeafFacts]) -> Result<CutFacts, Fail> {
-    match CutFacts::new(leaves) {
-        Some(facts) => Ok(facts),
-        None => Err(Fail::new("a cut has one to four leaves")),
-    }
+    CutFacts::new(leaves).ok_or_else(|| Fail::new("a cut has one to four leaves"))
 }
 
 // Three leaves with two uses each come to 65,535, one without a use to 65,536.

@@ -19,11 +19,7 @@ pub(crate) fn sum<W: Weight>(cut: &CutFacts) -> u32
     ensures is { result ≡ total W.Weight.weight (facts_of cut.now) }
     ensures small { result ≤ 65536 * positions }
 {
-    let mut sum = 0;
-    for leaf in cut.leaves() {
-        sum += W::weigh(leaf);
-    }
-    sum
+    cut.leaves().iter().map(|leaf| W::weigh(leaf)).sum()
 }
 
 pub(crate) struct Height;
@@ -32,7 +28,7 @@ impl Weight for Height {
     ghost weight = { λ f. f.height };
 
     fn weigh(leaf: &LeafFacts) -> u32 {
-        leaf.height as u32
+        u32::from(leaf.height)
     }
 }
 
@@ -43,7 +39,7 @@ impl Weight for GateLeaf {
     ghost weight = { gate_leaf };
 
     fn weigh(leaf: &LeafFacts) -> u32 {
-        if 0 < leaf.height { 1 } else { 0 }
+        u32::from(0 < leaf.height)
     }
 }
 
@@ -54,6 +50,6 @@ impl Weight for Share {
     ghost weight = { share };
 
     fn weigh(leaf: &LeafFacts) -> u32 {
-        65536 / (leaf.uses as u32 + 1)
+        65536 / (u32::from(leaf.uses) + 1)
     }
 }

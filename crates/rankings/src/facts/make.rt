@@ -16,9 +16,7 @@ impl CutFacts {
             return None;
         }
         let mut own = [LeafFacts { height: 0, uses: 0 }; MAX_LEAVES];
-        for i in 0..count {
-            own[i] = leaves[i];
-        }
+        own[..count].copy_from_slice(leaves);
         Some(CutFacts { count, leaves: own })
     }
 
@@ -27,6 +25,6 @@ impl CutFacts {
         ensures some { 0 < length result.now }
         ensures few { length result.now ≤ positions }
     {
-        &self.leaves[0..self.count]
+        &self.leaves[..self.count]
     }
 }

@@ -1,26 +1,23 @@
-use Rattle.std.proofs.Common.{map, take, ap, ◌∙◌, arith}
-use Rattle.std.proofs.lemmas.List.{map_more, take_all}
+use Rattle.std.proofs.Common.{rules, ◌≡◌, ◌+◌, ◌*◌, ◌<◌, map, sum_by, fold, sym, refl, ap, ◌∙◌, arith}
+use Rattle.std.proofs.lemmas.Iterator.{YieldsList-from_slice}
+use Rattle.std.proofs.lemmas.Iterator.Adapters.{fits_from_length, at_most_from_yields_List}
+use Rattle.std.proofs.lemmas.List.Recursion.{is_sum_by}
 use Rattle.model.specs.Rankings.{total}
+use Rattle.model.specs.Sessions.{positions}
 use Rattle.rankings.specs.Facts.{leaf_of}
-use Rattle.rankings.specs.Totals.{total_next}
 use Rattle.rankings.proofs.sums.sum.Goals as goal
 
-pub overflow_add-sum : goal.overflow_add-sum
-overflow_add-sum g c = omega (arith, c.loop-leaf.invariant.1, c.weigh-sum.ensures.small, c.leaves-leaf-items.ensures.few, c.loop-leaf-test.true)
-
-pub loop-leaf-preserved : goal.loop-leaf-preserved
-loop-leaf-preserved g c =
+pub returns-clause-is : goal.returns-clause-is
+returns-clause-is g c =
     let w = g.W.Weight.weight in
-    let xs = c.leaves-leaf-items.result.now in
-    let i = c.loop-leaf.leaf-index in
-    let more = ap (total w) (map_more leaf_of xs i (record { height = 0; uses = 0 }) (omega arith)) ∙ total_next w (map leaf_of (take i xs)) _ in
-    (omega (arith, c.loop-leaf.invariant.0, c.weigh-sum.ensures.is, more), omega (arith, c.loop-leaf.invariant.1, c.weigh-sum.ensures.small))
+    let xs = c.leaves.result.now in
+    let h : c.sum.result ≡ sum_by (λ x. w (leaf_of x)) xs = search rules in
+    h ∙ sym (is_sum_by (λ l. total w (map leaf_of l)) (λ x. w (leaf_of x)) refl (λ _ _. refl) xs) ∙ ap (total w) c.leaves.ensures.is
 
-pub returns : goal.returns
-returns g c =
-    let w = g.W.Weight.weight in
-    let xs = c.leaves-leaf-items.result.now in
-    record {
-      is = c.loop-leaf.invariant.0 ∙ ap (λ l. total w (map leaf_of l)) (take_all c.loop-leaf.leaf-index xs (omega arith)) ∙ ap (total w) c.leaves-leaf-items.ensures.is;
-      small = omega (arith, c.loop-leaf.invariant.1, c.leaves-leaf-items.ensures.few);
-    }
+pub returns-clause-small : goal.returns-clause-small
+returns-clause-small g c =
+    let run = c.sum.ensures.runs tt in
+    let h =
+    fits_from_length _ _ positions (65536 * positions + 1) (at_most_from_yields_List (YieldsList-from_slice c.leaves.result.now cc) c.leaves.ensures.few)
+    c.map.ensures.closure (omega arith) (λ x r q k. search rules) run.0 run.0.seen run.1 in
+    omega (arith, run.3, h)
