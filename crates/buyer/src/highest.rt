@@ -14,7 +14,11 @@ pub struct ByHighest;
 fn highest_leaf(cut: &CutFacts) -> u16
     ensures { result ≡ highest (facts_of cut.now) }
 {
-    cut.leaves().iter().map(|leaf| leaf.height).max().unwrap_or(0)
+    cut.leaves()
+        .iter()
+        .map(|leaf| leaf.height)
+        .max()
+        .unwrap_or(0)
 }
 
 impl Ranking for ByHighest {

@@ -5,7 +5,7 @@ ghost use Rattle.rankings.specs.Candidates.{by_facts};
 ghost use Rattle.buyer.specs.Picks.{numbered, first_of_three};
 
 use crate::flat::Flat;
-use rankings::{Candidate, CutFacts, Ranking, Shortlist, choose};
+use rankings::{Candidate, CutFacts, Ranking, Shortlist, choose, offer};
 
 // The three cuts, numbered from 0 in the order in which they were found.
 fn numbered(a: CutFacts, b: CutFacts, c: CutFacts) -> [Candidate<u8>; 3]
@@ -41,8 +41,8 @@ pub fn pick_two<R: Ranking>(by: &R, a: CutFacts, b: CutFacts, c: CutFacts) -> [C
 {
     let mut places = [Candidate { item: 0, facts: a }; 2];
     let mut list = Shortlist::new(&mut places);
-    list.offer(by, Candidate { item: 0, facts: a });
-    list.offer(by, Candidate { item: 1, facts: b });
-    list.offer(by, Candidate { item: 2, facts: c });
+    for candidate in numbered(a, b, c) {
+        offer(&mut list, by, candidate);
+    }
     places
 }

@@ -1,38 +1,61 @@
--- Choosing the first n, one candidate after the other. Assumes nothing.
-use Rattle.std.proofs.Common.{◌≡◌, ℕ, ◌+◌, ◌<◌, ◌≤◌, min, Bool, List, [], ◌∷◌, length, get_or, take, drop, sym, ap, ◌∙◌, ⊎_elim, arith}
-use Rattle.std.proofs.lemmas.List.{take_all, length-take-le, length-drop, drop_all, at_drop_more, at_drop_all}
+-- Choosing the first few, one candidate after the other. Assumes nothing.
+use Rattle.std.proofs.Common.{◌≡◌, ℕ, ◌+◌, ◌<◌, ◌≤◌, min, Bool, List, [], ◌∷◌, length, get_or, take, drop, sym, refl, ap, ◌∙◌, ⊎_elim, arith}
+use Rattle.std.proofs.lemmas.List.{take_all, length-take-le, length-drop, drop_all, drop-drop, at_drop_more, at_drop_all}
 use Rattle.std.proofs.lemmas.Bool.{cases_lt}
+use Rattle.lent.specs.declared.list.LentList.{LentList}
+use Rattle.lent.specs.Lists.{listed, unused, room, lender}
 use Rattle.model.specs.Rankings.{rank_in, ranked, first_by}
 use Rattle.model.proofs.Ranks.{ranked-none, keep_more}
 
-module _ {A : Type 0} (before : A → A → Bool) where
-  -- one candidate more
-  pub chosen_more : (n : ℕ) (xs : List A) (i : ℕ) (x : A) (done more : List A) → i < length xs → x ≡ get_or xs i x → more ≡ take n (rank_in before x done)
-      → take n (ranked before (drop i xs) done) ≡ take n (ranked before (drop (i + 1) xs) more)
-  chosen_more n xs i x done more lt is e =
-      at_drop_more (λ l. take n (ranked before l done)) xs i x lt
-      ∙ ap (λ y. take n (ranked before (y ∷ drop (i + 1) xs) done)) (sym is)
-      ∙ keep_more before n x (drop (i + 1) xs) done more e
+-- to a list that was empty the first i of the xs were offered
+pub record Offered {A : Type 0} (before : A → A → Bool) (empty : LentList A) (xs : List A) (i : ℕ) (list : LentList A) : Type 0 where
+  pub loan : lender list ≡ lender empty
+  pub places : room list ≡ room empty
+  pub first : take (room empty) (ranked before (drop i xs) (listed list)) ≡ take (room empty) (ranked before xs [])
+  pub rest : unused list ≡ drop i (unused empty)
 
-  -- none left
-  pub chosen-all : (n : ℕ) (xs : List A) (i m : ℕ) (list : List A) → length xs ≤ i → m ≤ n → m ≤ length list
-      → take n (ranked before (drop i xs) (take m list)) ≡ take n (ranked before xs []) → take m list ≡ first_by before n xs
-  chosen-all n xs i m list le few within inv =
-      let k = length-take-le m list within in
-      sym (take_all n (take m list) (omega arith)) ∙ ap (take n) (sym (ranked-none before (take m list)))
-      ∙ sym (at_drop_all (λ l. take n (ranked before l (take m list))) xs i le) ∙ inv
+module _ {A : Type 0} (before : A → A → Bool) (empty : LentList A) (xs : List A) where
+  pub offered-none : listed empty ≡ [] → Offered before empty xs 0 empty
+  offered-none e = record { loan = refl; places = refl; first = ap (λ l. take (room empty) (ranked before xs l)) e; rest = refl }
 
--- of n places so many are in use as candidates came, if they have room
-pub filled : {A : Type 0} (k i : ℕ) (ys xs : List A) → k ≤ length ys → length ys ≡ length xs → drop k ys ≡ drop i xs → k ≡ min (length xs) i
-filled k i ys xs w l e = omega (arith, length-drop k ys, length-drop i xs, ap length e)
+  module _ (i : ℕ) (list : LentList A) (so : Offered before empty xs i list) where
+    -- one more
+    pub offered_more : (x : A) (more : LentList A) → i < length xs → x ≡ get_or xs i x
+        → listed more ≡ take (room list) (rank_in before x (listed list)) → unused more ≡ drop 1 (unused list) → room more ≡ room list → lender more ≡ lender list
+        → Offered before empty xs (i + 1) more
+    offered_more x more lt at is rest same loan =
+        record {
+          loan = loan ∙ so.loan;
+          places = same ∙ so.places;
+          first =
+              sym (at_drop_more (λ l. take (room empty) (ranked before l (listed list))) xs i x lt
+              ∙ ap (λ y. take (room empty) (ranked before (y ∷ drop (i + 1) xs) (listed list))) (sym at)
+              ∙ keep_more before (room empty) x (drop (i + 1) xs) (listed list) (listed more) (is ∙ ap (λ n. take n (rank_in before x (listed list))) so.places))
+              ∙ so.first;
+          rest = rest ∙ ap (drop 1) so.rest ∙ drop-drop 1 i (unused empty);
+        }
 
--- and those after them stay
-pub stays : {A : Type 0} (k i : ℕ) (ys xs : List A) → k ≡ min (length xs) i → drop k ys ≡ drop i xs → drop k ys ≡ drop k xs
-stays k i ys xs e h =
-    ⊎_elim
-    (λ (lt : i < length xs). let s : k ≡ i = omega arith in h ∙ ap (λ j. drop j xs) (sym s))
-    (λ (le : length xs ≤ i). h ∙ drop_all i xs le ∙ sym (drop_all k xs (omega arith)))
-    (cases_lt i (length xs))
+    -- all of them, where the list was made on places ys
+    module _ (ys : List A) (all : length xs ≤ i) (rest : unused empty ≡ ys) (same : room empty ≡ length ys) where
+      pub offered-first : listed list ≡ first_by before (length ys) xs
+      offered-first =
+          let k = length-take-le list.count list.places.now list.within in
+          sym (take_all (room empty) (listed list) (omega (arith, k, list.within, so.places))) ∙ ap (take (room empty)) (sym (ranked-none before (listed list)))
+          ∙ sym (at_drop_all (λ l. take (room empty) (ranked before l (listed list))) xs i all) ∙ so.first ∙ ap (λ n. first_by before n xs) same
+
+      after : unused list ≡ drop i ys
+      after = so.rest ∙ ap (drop i) rest
+
+      pub offered-count : list.count ≡ min (length ys) i
+      offered-count = omega (arith, length-drop list.count list.places.now, length-drop i ys, ap length after, list.within, so.places, same)
+
+      -- the places not in use stay as they were
+      pub offered-rest : unused list ≡ drop list.count ys
+      offered-rest =
+          ⊎_elim
+          (λ (lt : i < length ys). let s : list.count ≡ i = omega (arith, offered-count) in after ∙ ap (λ j. drop j ys) (sym s))
+          (λ (le : length ys ≤ i). after ∙ drop_all i ys le ∙ sym (drop_all list.count ys (omega (arith, offered-count))))
+          (cases_lt i (length ys))
 
 -- a fact of a list, told of one that is equal to it
 pub told_of : {A B : Type 0} (f : List A → B) (r : B) (ys ps : List A) → f ys ≡ r → ps ≡ ys → f ps ≡ r

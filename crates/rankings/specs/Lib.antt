@@ -1,6 +1,5 @@
 pub mod Facts
 pub mod Candidates
-pub mod Shortlists
 pub mod Ratios
 pub mod ByHeightRankingLemmas
 pub mod Totals

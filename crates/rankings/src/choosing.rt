@@ -5,7 +5,7 @@ ghost use Rattle.rankings.specs.Candidates.{by_facts};
 
 use crate::candidate::Candidate;
 use crate::rank::Ranking;
-use crate::shortlist::Shortlist;
+use crate::shortlist::{Shortlist, offer};
 
 // Writes the first candidates by the ranking, ties by earlier discovery, as many as there are places, and answers how many.
 // The later places stay as they were.
@@ -20,7 +20,7 @@ pub fn choose<R: Ranking, T: Copy>(
 {
     let mut list = Shortlist::new(places);
     for candidate in candidates {
-        list.offer(by, *candidate);
+        offer(&mut list, by, *candidate);
     }
-    list.candidates().len()
+    list.len()
 }

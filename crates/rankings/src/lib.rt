@@ -15,4 +15,4 @@ pub use choosing::choose;
 pub use facts::{CutFacts, LeafFacts, MAX_LEAVES};
 pub use kinds::{ByGateLeaves, ByHeight, ByUses};
 pub use rank::{Ranking, keeps_the_laws};
-pub use shortlist::Shortlist;
+pub use shortlist::{Shortlist, offer};

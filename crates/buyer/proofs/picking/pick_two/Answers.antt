@@ -1,33 +1,33 @@
-use Rattle.std.proofs.Common.{◌≡◌, ℕ, [], length, take, drop, sym, ap, ◌∙◌, arith, rules}
-use Rattle.model.specs.Rankings.{rank_in, first_by}
-use Rattle.rankings.specs.declared.candidate.Candidate.{Candidate}
+use Rattle.std.proofs.Common.{◌≡◌, ◌≤◌, length, get_or, sym, ap, ◌∙◌, arith, rules}
+use Rattle.std.proofs.lemmas.List.{take_all}
+use Rattle.model.specs.Rankings.{first_by}
 use Rattle.rankings.specs.Candidates.{by_facts}
-use Rattle.rankings.specs.Shortlists.{listed, unused, room}
-use Rattle.buyer.specs.Picks.{numbered}
-use Rattle.buyer.proofs.Offered.{offered_three, none_left, found-there}
+use Rattle.rankings.proofs.Chosen.{offered-none, offered_more, offered-first, offered-count, told_of}
 use Rattle.buyer.proofs.picking.pick_two.Goals as goal
+
+pub loop-candidate-init : goal.loop-candidate-init
+loop-candidate-init g c = offered-none (by_facts (g.R.Ranking.before c.args.by.now)) c.new-list.result c.numbered-candidate-items.result c.new-list.ensures.empty
+
+pub loop-candidate-preserved : goal.loop-candidate-preserved
+loop-candidate-preserved g c =
+    let cs = c.numbered-candidate-items.result in
+    let l = c.loop-candidate in
+    let did = c.offer.ensures in
+    let three : length cs ≡ 3 = ap length c.numbered-candidate-items.ensures in
+    offered_more (by_facts (g.R.Ranking.before c.args.by.now)) c.new-list.result cs l.candidate-index l.list l.invariant (get_or cs l.candidate-index c.candidate-item.result) c.offer.new.list
+    (omega (arith, three, c.loop-candidate-test.true)) (ap (get_or cs l.candidate-index) c.candidate-item.is) did.is did.rest did.room did.lender
 
 pub returns : goal.returns
 returns g c =
     let B = by_facts (g.R.Ranking.before c.args.by.now) in
-    let x : Candidate ℕ = record { item = 0; facts = c.args.a } in
-    let y : Candidate ℕ = record { item = 1; facts = c.args.b } in
-    let z : Candidate ℕ = record { item = 2; facts = c.args.c } in
-    let one = c.offer.new.self in
-    let two = c.offer-2.new.self in
-    let all = c.offer-3.new.self in
-    let ys = all.places.now in
-    let m : room c.new-list.result ≡ 2 = c.new-list.ensures.room in
-    let m1 : room one ≡ 2 = c.offer.ensures.room ∙ m in
-    let m2 : room two ≡ 2 = c.offer-2.ensures.room ∙ m1 in
-    let m3 : room all ≡ 2 = c.offer-3.ensures.room ∙ m2 in
-    let left : unused all ≡ [] =
-    c.offer-3.ensures.rest ∙ ap (drop 1) (c.offer-2.ensures.rest ∙ ap (drop 1) (c.offer.ensures.rest ∙ ap (drop 1) c.new-list.ensures.rest)) in
-    let full : listed all ≡ ys = none_left all.count ys left in
-    let chosen : listed all ≡ first_by B 2 (numbered c.args.a c.args.b c.args.c) =
-    offered_three B x y z (listed one) (listed two) (listed all)
-    (c.offer.ensures.is ∙ ap (λ n. take n (rank_in B x (listed c.new-list.result))) m ∙ ap (λ l. take 2 (rank_in B x l)) c.new-list.ensures.none)
-    (c.offer-2.ensures.is ∙ ap (λ n. take n (rank_in B y (listed one))) m1)
-    (c.offer-3.ensures.is ∙ ap (λ n. take n (rank_in B z (listed two))) m2)
-    (omega (arith, ap length full, m3)) in
-    found-there ys _ _ (sym full ∙ chosen) (search rules)
+    let cs = c.numbered-candidate-items.result in
+    let l = c.loop-candidate in
+    let ys = l.list.places.now in
+    let three : length cs ≡ 3 = ap length c.numbered-candidate-items.ensures in
+    let all : length cs ≤ l.candidate-index = omega (arith, three, c.loop-candidate-test.false) in
+    let made = c.new-list.ensures in
+    let many = offered-count B c.new-list.result cs l.candidate-index l.list l.invariant _ all made.rest made.room in
+    let first = offered-first B c.new-list.result cs l.candidate-index l.list l.invariant _ all made.rest made.room in
+    let full : length ys ≡ 2 = l.invariant.places ∙ made.room in
+    let chosen : ys ≡ first_by B 2 cs = sym (take_all l.list.count ys (omega (arith, many, full, three, all))) ∙ first in
+    told_of (λ l. l) _ ys _ (chosen ∙ ap (first_by B 2) c.numbered-candidate-items.ensures) (search rules)
