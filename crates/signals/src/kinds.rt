@@ -46,7 +46,7 @@ impl Signal for bool {
 }
 
 // One lane for each of 64 input patterns.
-#[derive(Clone, Copy)]
+#[derive(Clone, Copy, Debug, PartialEq, Eq)]
 pub struct Patterns {
     pub word: u64,
 }

@@ -6,7 +6,7 @@ ghost use Rattle.std.proofs.Common.{rules};
 use crate::signal::Signal;
 
 // A word of 64 patterns with its complement; the lanes are those of the plain word.
-#[derive(Clone, Copy)]
+#[derive(Clone, Copy, Debug, PartialEq, Eq)]
 pub struct RailPair {
     pub plain: u64,
     pub inverse: u64,
