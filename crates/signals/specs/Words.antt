@@ -1,8 +1,10 @@
 -- The bits of an AND and of a complement, at any width.
 use Rattle.std.specs.Prelude.{◌≡◌, ℕ, ◌+◌, ◌-◌, ◌*◌, ◌/◌, ◌%◌, ◌^◌, ◌<◌, min, not, ◌&&◌, ◌==◌, nat_eq}
 use Rattle.std.proofs.Common.{ap, ◌∙◌, add-mul, one-mul, arith}
-use Rattle.std.specs.Int.Bits.{bit_and, and_step}
-use Rattle.std.proofs.lemmas.Nat.{pow_pos, pow-add, div-add-mod', mod_below, div-mul-add, div_below, and_shr, mod-pow-add}
+use Rattle.std.specs.Int.{bit_at}
+use Rattle.std.specs.Int.Bits.{bit_and}
+use Rattle.std.proofs.lemmas.Nat.{pow_pos, pow-add, div-add-mod', mod_below, div-mul-add, div_below, mod-pow-add}
+use Rattle.std.proofs.lemmas.Nat.Bits.{bit_at_and, bit_at-lt}
 use Rattle.std.proofs.lemmas.Bool.{eqb-true, eqb-false, eq-eqb, ne_eqb}
 use Rattle.std.proofs.Math.Pow.{mod-mod-pow}
 use Rattle.signals.specs.Lanes.{bit, flip_word}
@@ -11,11 +13,7 @@ min_test : (p q : ℕ) → p < 2 → q < 2 → (min p q == 1) ≡ (p == 1 && q =
 min_test p q h k = grind (arith, eqb-true, eqb-false, eq-eqb, ne_eqb)
 
 pub bit-and : (a b i : ℕ) → bit (bit_and a b) i ≡ (bit a i && bit b i)
-bit-and a b i =
-    let x = a / 2 ^ i in
-    let y = b / 2 ^ i in
-    let s : bit_and x y % 2 ≡ min (x % 2) (y % 2) = omega (arith, and_step x y) in
-    ap (λ n. nat_eq (n % 2) 1) (and_shr a b i) ∙ ap (λ n. nat_eq n 1) s ∙ min_test (x % 2) (y % 2) (omega arith) (omega arith)
+bit-and a b i = ap (λ n. nat_eq n 1) (bit_at_and a b i) ∙ min_test (bit_at a i) (bit_at b i) (bit_at-lt a i) (bit_at-lt b i)
 
 -- the quotient of what is left of n * m
 div_rest : (n m a : ℕ) → 0 < m → a < n * m → (n * m - 1 - a) / m ≡ n - 1 - a / m
