@@ -3,6 +3,7 @@ use Rattle.std.proofs.Common.{◌≡◌, ℕ, suc, ◌<◌, ◌≤◌, Bool, tru
 use mathlib.Core.Bool.{Bool-set}
 use mathlib.Core.Logic.{∥∥₁_elim}
 use lib.ListN.{length-map}
+use Rattle.signals.specs.declared.signal.Signal.{Ghosts as Signal}
 use Rattle.model.specs.Edges.{node_of, sign_of}
 use Rattle.model.specs.Graphs.{Graph, input, gate, Kind, bits, at, inputs, signals, edge_signal, value, edge_value}
 use Rattle.model.specs.Sessions.{State, map_edge}
@@ -10,7 +11,7 @@ use Rattle.model.proofs.Consistent.{run_consistent, mapped-within, map-within}
 use Rattle.model.proofs.Sound.{equal-signals-run, sessions-fit}
 use Rattle.sweeper.specs.Runs.{Reached}
 use Rattle.evaluation.specs.Both.{Agree}
-use Rattle.evaluation.specs.Walks.{edge_over, ranked, Walked}
+use Rattle.evaluation.specs.Walks.{kind_of, edge_over, ranked, Walked}
 
 at-mapped : {A B : Type 0} (f : A → B) (d : A) (xs : List A) (n : ℕ) → f (at d xs n) ≡ at (f d) (map f xs) n
 at-mapped f d [] n = refl
@@ -52,32 +53,33 @@ module _ {S : Type 0} (k : Kind S) (bit : S → Bool) (acts : Acts k bit) where
     signal_bit : (g : Graph) (n : ℕ) → bit (at k.low (signals k given g) n) ≡ value g (λ r. bit (given r)) n
     signal_bit g n = at-bit (signals k given g) n ∙ ap (λ l. at false l n) (all-bits g)
 
+module _ {S : Type 0} (s : Signal S) (bit : S → Bool) (acts : Acts (kind_of s) bit) where
   -- the same of places that were walked
-  module _ (formed : S → Type 0) (g : Graph) (given before after : List S) (walked : Walked k formed g given before after) where
-    node_lane : (n : ℕ) → n ≤ length g → bit (get_or after n k.low) ≡ value g (λ r. bit (ranked k given r)) n
-    node_lane n h = ap bit (walked.places n h) ∙ signal_bit (ranked k given) g n
+  module _ (g : Graph) (given before after : List S) (walked : Walked s g given before after) where
+    node_lane : (n : ℕ) → n ≤ length g → bit (get_or after n s.low) ≡ value g (λ r. bit (ranked (kind_of s) given r)) n
+    node_lane n h = ap bit (walked.places n h) ∙ signal_bit (kind_of s) bit acts (ranked (kind_of s) given) g n
 
-    edge_lane : (e : ℕ) → node_of e ≤ length g → bit (edge_over k after e) ≡ edge_value g (λ r. bit (ranked k given r)) e
-    edge_lane e h = signed-bit (sign_of e) (get_or after (node_of e) k.low) ∙ ap (λ b. cond (sign_of e) (not b) b) (node_lane (node_of e) h)
+    edge_lane : (e : ℕ) → node_of e ≤ length g → bit (edge_over (kind_of s) after e) ≡ edge_value g (λ r. bit (ranked (kind_of s) given r)) e
+    edge_lane e h = signed-bit (kind_of s) bit acts (sign_of e) (get_or after (node_of e) s.low) ∙ ap (λ b. cond (sign_of e) (not b) b) (node_lane (node_of e) h)
 
   -- both graphs walked with the same signals
-  module _ (formed : S → Type 0) (s : State) (r : Reached s) (given xs ys source reduced : List S) (one : Walked k formed s.source given xs source) (two : Walked k formed s.reduced given ys reduced) where
-    nodes-agree : (n : ℕ) → n ≤ length s.source → bit (get_or source n k.low) ≡ bit (edge_over k reduced (at 0 s.mapped n))
+  module _ (t : State) (r : Reached t) (given xs ys source reduced : List S) (one : Walked s t.source given xs source) (two : Walked s t.reduced given ys reduced) where
+    nodes-agree : (n : ℕ) → n ≤ length t.source → bit (get_or source n s.low) ≡ bit (edge_over (kind_of s) reduced (at 0 t.mapped n))
     nodes-agree n h = ∥∥₁_elim r (Bool-set _ _) λ l.
-        node_lane formed s.source given xs source one n h
-        ∙ (equal-signals-run _ _ _ _ s sessions-fit l.run).nodes (λ q. bit (ranked k given q)) n h
-        ∙ sym (edge_lane formed s.reduced given ys reduced two (at 0 s.mapped n) (mapped-within s (run_consistent l.run) n))
+        node_lane t.source given xs source one n h
+        ∙ (equal-signals-run _ _ _ _ t sessions-fit l.run).nodes (λ q. bit (ranked (kind_of s) given q)) n h
+        ∙ sym (edge_lane t.reduced given ys reduced two (at 0 t.mapped n) (mapped-within t (run_consistent l.run) n))
 
-    edges-agree : (e : ℕ) → node_of e ≤ length s.source → bit (edge_over k source e) ≡ bit (edge_over k reduced (map_edge s e))
+    edges-agree : (e : ℕ) → node_of e ≤ length t.source → bit (edge_over (kind_of s) source e) ≡ bit (edge_over (kind_of s) reduced (map_edge t e))
     edges-agree e h = ∥∥₁_elim r (Bool-set _ _) λ l.
-        edge_lane formed s.source given xs source one e h
-        ∙ (equal-signals-run _ _ _ _ s sessions-fit l.run).edges (λ q. bit (ranked k given q)) e h
-        ∙ sym (edge_lane formed s.reduced given ys reduced two (map_edge s e) (map-within s (run_consistent l.run) e))
+        edge_lane t.source given xs source one e h
+        ∙ (equal-signals-run _ _ _ _ t sessions-fit l.run).edges (λ q. bit (ranked (kind_of s) given q)) e h
+        ∙ sym (edge_lane t.reduced given ys reduced two (map_edge t e) (map-within t (run_consistent l.run) e))
 
 -- every lane at once
-pub all-agree : {S : Type 0} (lanes : ℕ) (lane : S → ℕ → Bool) (k : Kind S) (acts : (i : ℕ) → i < lanes → Acts k (λ v. lane v i)) (formed : S → Type 0) (s : State) → Reached s
-    → (given xs ys source reduced : List S) → Walked k formed s.source given xs source → Walked k formed s.reduced given ys reduced → Agree lanes lane k s source reduced
-all-agree lanes lane k acts formed s r given xs ys source reduced one two = record {
-  nodes = λ n i h z. nodes-agree k (λ v. lane v i) (acts i z) formed s r given xs ys source reduced one two n h;
-  edges = λ e i h z. edges-agree k (λ v. lane v i) (acts i z) formed s r given xs ys source reduced one two e h;
+pub all-agree : {S : Type 0} (s : Signal S) (acts : (i : ℕ) → i < s.lanes → Acts (kind_of s) (λ v. s.lane v i)) (t : State) → Reached t
+    → (given xs ys source reduced : List S) → Walked s t.source given xs source → Walked s t.reduced given ys reduced → Agree s t source reduced
+all-agree s acts t r given xs ys source reduced one two = record {
+  nodes = λ n i h z. nodes-agree s (λ v. s.lane v i) (acts i z) t r given xs ys source reduced one two n h;
+  edges = λ e i h z. edges-agree s (λ v. s.lane v i) (acts i z) t r given xs ys source reduced one two e h;
 }

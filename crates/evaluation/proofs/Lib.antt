@@ -1,4 +1,5 @@
 pub mod Fronts
+pub mod Counted
 pub mod Formed
 pub mod Filled
 pub mod Earlier

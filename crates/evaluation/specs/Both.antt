@@ -1,10 +1,11 @@
 -- Both graphs walked with the same signals.
-use Rattle.std.specs.Prelude.{◌≡◌, ℕ, suc, ◌<◌, ◌≤◌, Bool, cond, List, length, Ok, Err, Result, ◌==◌, nat_le, slice_index_or}
+use Rattle.std.specs.Prelude.{◌≡◌, ℕ, suc, ◌<◌, ◌≤◌, cond, List, length, Ok, Err, Result, ◌==◌, nat_le, slice_index_or}
 use Rattle.model.specs.Edges.{node_of}
-use Rattle.model.specs.Graphs.{Kind, at, inputs}
+use Rattle.signals.specs.declared.signal.Signal.{Ghosts as Signal}
+use Rattle.model.specs.Graphs.{at, inputs}
 use Rattle.model.specs.Sessions.{State, Answer, filled, refused, wrong_signals, too_short, map_edge}
 use Rattle.sweeper.specs.declared.refusal.Refusal.{Refusal}
-use Rattle.evaluation.specs.Walks.{edge_over}
+use Rattle.evaluation.specs.Walks.{kind_of, edge_over}
 
 -- the checks of the source walk, then those of the reduced walk that can still fail; the answer is that of the source walk
 abbrev pub both_answer : State → ℕ → ℕ → ℕ → Answer
@@ -16,10 +17,10 @@ both_answer s given source reduced =
     (refused (wrong_signals (inputs s.source)))
 
 -- in every lane a source node has the signal of its mapped edge, and so has a source edge
-pub record Agree {S : Type 0} (lanes : ℕ) (lane : S → ℕ → Bool) (k : Kind S) (s : State) (source reduced : List S) : Type 0 where
-  pub nodes : (n i : ℕ) → n ≤ length s.source → i < lanes → lane (slice_index_or source n k.low) i ≡ lane (edge_over k reduced (at 0 s.mapped n)) i
-  pub edges : (e i : ℕ) → node_of e ≤ length s.source → i < lanes → lane (edge_over k source e) i ≡ lane (edge_over k reduced (map_edge s e)) i
+pub record Agree {S : Type 0} (s : Signal S) (t : State) (source reduced : List S) : Type 0 where
+  pub nodes : (n i : ℕ) → n ≤ length t.source → i < s.lanes → s.lane (slice_index_or source n s.low) i ≡ s.lane (edge_over (kind_of s) reduced (at 0 t.mapped n)) i
+  pub edges : (e i : ℕ) → node_of e ≤ length t.source → i < s.lanes → s.lane (edge_over (kind_of s) source e) i ≡ s.lane (edge_over (kind_of s) reduced (map_edge t e)) i
 
-abbrev pub AgreeBy : {S : Type 0} → Result ℕ Refusal → ℕ → (S → ℕ → Bool) → Kind S → State → List S → List S → Type 0
-AgreeBy (Ok n) lanes lane k s source reduced = Agree lanes lane k s source reduced
-AgreeBy (Err r) lanes lane k s source reduced = Unit {0}
+abbrev pub AgreeBy : {S : Type 0} → Signal S → Result ℕ Refusal → State → List S → List S → Type 0
+AgreeBy s (Ok n) t source reduced = Agree s t source reduced
+AgreeBy s (Err r) t source reduced = Unit {0}

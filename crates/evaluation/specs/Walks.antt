@@ -1,14 +1,15 @@
 -- What a walk leaves in its places.
 use Rattle.std.specs.Prelude.{◌≡◌, ℕ, suc, ◌<◌, ◌≤◌, cond, List, length, get_or, drop, Ok, Err, Result, nat_le, slice_index_or}
+use Rattle.signals.specs.declared.signal.Signal.{Ghosts as Signal}
 use Rattle.model.specs.Edges.{node_of, sign_of}
 use Rattle.model.specs.Graphs.{input, gate, Graph, Kind, at, signals}
 use Rattle.model.specs.Sessions.{Answer, filled, refused, too_short}
 use Rattle.sweeper.specs.declared.refusal.Refusal.{Refusal}
 use Rattle.sweeper.specs.Answers.{refusal_in}
 
--- a kind of signal by its FALSE, AND and complement
-abbrev pub kind_of : {S : Type 0} → S → (S → S → S) → (S → S) → Kind S
-kind_of low meet flip = record { low = low; meet = meet; flip = flip }
+-- FALSE, AND and complement of signals
+abbrev pub kind_of : {S : Type 0} → Signal S → Kind S
+kind_of s = record { low = s.low; meet = s.meet; flip = s.flip }
 
 -- an edge's signal, from places that hold the nodes' signals: complemented for sign 1
 abbrev pub edge_over : {S : Type 0} → Kind S → List S → ℕ → S
@@ -20,13 +21,13 @@ ranked k xs r = slice_index_or xs r k.low
 
 -- place n holds node n's signal, place 0 FALSE, and later places stay as they were;
 -- FALSE and the signals of gates are formed, whatever the inputs' signals are
-pub record Walked {S : Type 0} (k : Kind S) (formed : S → Type 0) (g : Graph) (signalsIn before after : List S) : Type 0 where
+pub record Walked {S : Type 0} (s : Signal S) (g : Graph) (given before after : List S) : Type 0 where
   pub fits : length g < length before
   pub room : length after ≡ length before
-  pub places : (n : ℕ) → n ≤ length g → slice_index_or after n k.low ≡ at k.low (signals k (ranked k signalsIn) g) n
+  pub places : (n : ℕ) → n ≤ length g → slice_index_or after n s.low ≡ at s.low (signals (kind_of s) (ranked (kind_of s) given) g) n
   pub rest : drop (suc (length g)) after ≡ drop (suc (length g)) before
-  pub formed_low : formed (slice_index_or after 0 k.low)
-  pub formed_gates : (n x y : ℕ) → at input g n ≡ gate x y → formed (slice_index_or after n k.low)
+  pub formed_low : s.formed (slice_index_or after 0 s.low)
+  pub formed_gates : (n x y : ℕ) → at input g n ≡ gate x y → s.formed (slice_index_or after n s.low)
 
 -- places enough for the nodes and the constant
 abbrev pub room_answer : Graph → ℕ → Answer
@@ -37,6 +38,6 @@ told_places (Ok n) = filled n
 told_places (Err r) = refused (refusal_in r)
 
 -- a refused walk leaves the places
-abbrev pub WalkedBy : {S : Type 0} → Result ℕ Refusal → Kind S → (S → Type 0) → Graph → List S → List S → List S → Type 0
-WalkedBy (Ok n) k formed g signalsIn before after = Walked k formed g signalsIn before after
-WalkedBy (Err r) k formed g signalsIn before after = after ≡ before
+abbrev pub WalkedBy : {S : Type 0} → Signal S → Result ℕ Refusal → Graph → List S → List S → List S → Type 0
+WalkedBy s (Ok n) g given before after = Walked s g given before after
+WalkedBy s (Err r) g given before after = after ≡ before

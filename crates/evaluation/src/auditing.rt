@@ -3,12 +3,13 @@ ghost use Rattle.sweeper.specs.Runs.{Reached};
 ghost use Rattle.sweeper.specs.States.{state_in};
 ghost use Rattle.evaluation.specs.Audits.{Tells, KeepsLaws, Completes};
 
-use crate::nodes::inputs_of;
+use crate::graph::Graph;
 use crate::side::Side;
+use cuts::POSITIONS;
 use sweeper::{Session, Tally};
 
 // The most inputs of which every equal function is found, where all rankings put inputs first.
-const LEAVES: usize = 4;
+const LEAVES: usize = POSITIONS;
 
 // A session as a whole.
 #[derive(Clone, Copy)]
@@ -29,7 +30,11 @@ pub fn audit(session: &Session<'_>) -> Findings
     ensures laws { KeepsLaws (state_in session.now) }
     ensures complete { result.few_inputs ≡ true → Completes (state_in session.now) }
 {
-    let inputs = inputs_of(session, Side::Source);
+    let source = Graph {
+        session,
+        side: Side::Source,
+    };
+    let inputs = source.inputs();
     Findings {
         inputs,
         source_nodes: session.source_nodes(),

@@ -1,11 +1,10 @@
 ghost use Rattle.std.specs.Prelude.{◌≡◌, length};
 ghost use Rattle.sweeper.specs.States.{state_in};
 ghost use Rattle.evaluation.specs.Both.{both_answer, AgreeBy};
-ghost use Rattle.evaluation.specs.Walks.{kind_of, told_places, WalkedBy};
+ghost use Rattle.evaluation.specs.Walks.{told_places, WalkedBy};
 
-use crate::filling::fill;
+use crate::graph::Graph;
 use crate::side::Side;
-use crate::walking::{check, check_room};
 use signals::Signal;
 use sweeper::{Refusal, Session};
 
@@ -18,13 +17,21 @@ pub fn walk_both<S: Signal>(
     reduced: &mut [S],
 ) -> Result<usize, Refusal>
     ensures answer { told_places result ≡ both_answer (state_in session.now) (length given.now) (length source.old) (length reduced.old) }
-    ensures source { WalkedBy result (kind_of S.Signal.low S.Signal.meet S.Signal.flip) S.Signal.formed (state_in session.now).source given.now source.old source.new }
-    ensures reduced { WalkedBy result (kind_of S.Signal.low S.Signal.meet S.Signal.flip) S.Signal.formed (state_in session.now).reduced given.now reduced.old reduced.new }
-    ensures agree { AgreeBy result S.Signal.lanes S.Signal.lane (kind_of S.Signal.low S.Signal.meet S.Signal.flip) (state_in session.now) source.new reduced.new }
+    ensures source { WalkedBy S.Signal result (state_in session.now).source given.now source.old source.new }
+    ensures reduced { WalkedBy S.Signal result (state_in session.now).reduced given.now reduced.old reduced.new }
+    ensures agree { AgreeBy S.Signal result (state_in session.now) source.new reduced.new }
 {
-    let count = check(session, Side::Source, given.len(), source.len())?;
-    check_room(session, Side::Reduced, reduced.len())?;
-    fill(session, Side::Source, given, source);
-    fill(session, Side::Reduced, given, reduced);
+    let source_graph = Graph {
+        session,
+        side: Side::Source,
+    };
+    let reduced_graph = Graph {
+        session,
+        side: Side::Reduced,
+    };
+    let count = source_graph.check(given.len(), source.len())?;
+    reduced_graph.check_room(reduced.len())?;
+    source_graph.fill(given, source);
+    reduced_graph.fill(given, reduced);
     Ok(count)
 }

@@ -4,7 +4,7 @@
 mod auditing;
 mod both;
 mod filling;
-mod nodes;
+mod graph;
 mod side;
 mod walking;
 

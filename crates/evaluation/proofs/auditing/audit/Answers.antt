@@ -11,16 +11,16 @@ returns c =
     let s = state_in c.args.session.now in
     record {
       tells = record {
-        given = c.inputs_of-inputs.ensures;
+        given = c.inputs-inputs.ensures;
         source = c.source_nodes.ensures;
         reduced = c.reduced_nodes.ensures;
         outputs = c.outputs.ensures;
         tally = c.tally.ensures;
-        few = ap (λ n. leb n 4) c.inputs_of-inputs.ensures;
+        few = ap (λ n. leb n 4) c.inputs-inputs.ensures;
       };
       reached = c.args.session.now.reached;
       laws = λ m t es fit run. every-run-is-sound positions m t es s fit run;
       complete = λ h t es run first.
-          let few : inputs s.source ≤ 4 = (let z = leb-true c.inputs_of-inputs.result 4 h in omega (arith, z, c.inputs_of-inputs.ensures)) in
+          let few : inputs s.source ≤ 4 = (let z = leb-true c.inputs-inputs.result 4 h in omega (arith, z, c.inputs-inputs.ensures)) in
           (every-run-is-sound positions lean t es s sessions-fit run).complete few first;
     }

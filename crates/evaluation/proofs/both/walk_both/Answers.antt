@@ -1,7 +1,6 @@
 use Rattle.std.proofs.Common.{length, sym, refl, ◌∙◌}
 use Rattle.std.proofs.lemmas.Result.{err_from_is_err_and}
 use Rattle.sweeper.specs.States.{state_in}
-use Rattle.evaluation.specs.Walks.{kind_of}
 use Rattle.evaluation.proofs.Earlier.{same_inputs}
 use Rattle.evaluation.proofs.Checked.{ready, room-ready, both_first, both-second, both-filled}
 use Rattle.evaluation.proofs.Laned.{all-agree}
@@ -44,13 +43,11 @@ returns-in_err-check_room g c =
 
 pub returns : goal.returns
 returns g c =
-    let signal = g.S.Signal in
     let laws = g.met.S.Signal in
     record {
       answer = both-filled (state_in c.args.session.now) (length c.args.given.now) (length c.args.source.now) (length c.args.reduced.now) c.in_ok-count.count c.in_ok-count.ensures c.in_ok-check_room.field-0 c.in_ok-check_room.ensures;
       source = c.fill.ensures;
       reduced = c.fill-2.ensures;
-      agree = all-agree signal.lanes signal.lane (kind_of signal.low signal.meet signal.flip)
-          (λ i h. record { lows = laws.lows i h; meets = λ a b. laws.meets a b i h; flips = λ a. laws.flips a i h })
-          signal.formed (state_in c.args.session.now) c.args.session.now.reached c.args.given.now c.args.source.now c.args.reduced.now c.fill.new.places c.fill-2.new.places c.fill.ensures c.fill-2.ensures;
+      agree = all-agree g.S.Signal (λ i h. record { lows = laws.lows i h; meets = λ a b. laws.meets a b i h; flips = λ a. laws.flips a i h })
+          (state_in c.args.session.now) c.args.session.now.reached c.args.given.now c.args.source.now c.args.reduced.now c.fill.new.places c.fill-2.new.places c.fill.ensures c.fill-2.ensures;
     }
