@@ -5,7 +5,6 @@ ghost use Rattle.sweeper.specs.States.{state_in};
 ghost use Rattle.cones.specs.Marks.{is_reached, with_fanins};
 ghost use Rattle.cones.specs.Cones.{fanin_nodes, capped};
 
-use crate::marks::clear;
 use search::Node;
 use sweeper::{Refusal, Session};
 
@@ -29,14 +28,12 @@ fn spread(session: &Session<'_>, marks: &mut [u8], node: usize) -> bool
     if marks[node] != 1 {
         return false;
     }
-    match fanins(session, node) {
-        Some((x, y)) => {
-            marks[x] = 1;
-            marks[y] = 1;
-            true
-        }
-        None => false,
-    }
+    let Some((x, y)) = fanins(session, node) else {
+        return false;
+    };
+    marks[x] = 1;
+    marks[y] = 1;
+    true
 }
 
 // The gates that a node rests on, itself included, or a refusal if they are more than the cap.
@@ -51,9 +48,10 @@ pub(crate) fn count(
     requires known { top ≤ length (state_in session.now).reduced }
     ensures { result ≡ capped (gates_that (rests_on (state_in session.now).reduced top) (state_in session.now).reduced) cap }
 {
-    clear(marks);
+    marks.fill(0);
     marks[top] = 1;
     let mut gates = 0;
+    // No chain counts here: each visit marks further nodes, and the count ends at the cap.
     for node in (1..=top).rev() {
         if spread(session, marks, node) {
             if gates >= cap {

@@ -33,11 +33,11 @@ pub fn cone(session: &Session<'_>, e: Edge, marks: &mut [u8], cap: usize) -> Res
         return Err(Refusal::TooShort(nodes + 1));
     }
     let guard = Wipe { marks };
-    let gates = count(session, guard.marks, node, cap)?;
-    Ok(gates)
+    count(session, guard.marks, node, cap)
 }
 
 /// A node rests on what a path of fanins leads to, and a cone has the gates among that.
+/// The call carries the theorem; its answer says nothing more, and stays for those that make the call.
 pub fn cones_are_paths() -> u8
     ensures { ConesArePaths }
 {

@@ -1,15 +1,6 @@
 //! The marks that a count works on.
 ghost use Rattle.cones.specs.Marks.{Clear};
 
-// Sets every mark to 0.
-pub(crate) fn clear(marks: &mut [u8])
-    ensures { Clear marks.new }
-{
-    for m in marks.iter_mut() {
-        *m = 0;
-    }
-}
-
 // Holds the marks of a count; they are all 0 once it is let go.
 pub(crate) struct Wipe<'a> {
     pub(crate) marks: &'a mut [u8],
@@ -20,6 +11,6 @@ impl Drop for Wipe<'_> {
         ensures { Clear self.exit.0.now }
     {
         let Wipe { marks } = self;
-        clear(marks);
+        marks.fill(0);
     }
 }

@@ -1,5 +1,4 @@
-use Rattle.std.proofs.Common.{◌≡◌, ◌+◌, length, Ok, Err, ap, ◌∙◌, arith, rules}
-use Rattle.std.proofs.lemmas.Result.{err_from_is_err_and}
+use Rattle.std.proofs.Common.{◌≡◌, ◌+◌, length, ap, ◌∙◌, arith, rules}
 use Rattle.model.specs.Edges.{node_of}
 use Rattle.model.specs.Graphs.{cone_of, gates_that, rests_on}
 use Rattle.sweeper.specs.States.{state_in}
@@ -27,27 +26,13 @@ returns-then-marks-nodes c = record {
   marked = search rules;
 }
 
-pub returns-in_err-gates : goal.returns-in_err-gates
-returns-in_err-gates c =
-    let s = state_in c.args.session.now in
-    let e = c.args.e.number in
-    let exit = err_from_is_err_and c.from_residual.result c.from_residual.ensures.1 in
-    let is : c.from_residual.result ≡ capped (cone_of s.reduced e) c.args.cap =
-    exit.1 ∙ ap Err exit.2 ∙ c.in_err-gates.ensures ∙ ap (λ n. capped (gates_that (rests_on s.reduced n) s.reduced) c.args.cap) c.node-node.ensures in
-    record {
-      runs = counts s e (length c.args.marks.now) c.args.cap (omega arith) (omega arith) c.from_residual.result is;
-      paths = cone-told s.reduced e c.args.cap (cone_of_lem s.reduced (ordered s c.args.session.now.reached) (node_of e)) c.from_residual.result is;
-      marked = marks_wiped _ _ (cone_of s.reduced e) c.args.cap (record { clear = search rules; number = search rules }) c.from_residual.result is;
-    }
-
 pub returns : goal.returns
 returns c =
     let s = state_in c.args.session.now in
     let e = c.args.e.number in
-    let is : Ok c.in_ok-gates.gates ≡ capped (cone_of s.reduced e) c.args.cap =
-    c.in_ok-gates.ensures ∙ ap (λ n. capped (gates_that (rests_on s.reduced n) s.reduced) c.args.cap) c.node-node.ensures in
+    let is : c.count.result ≡ capped (cone_of s.reduced e) c.args.cap = c.count.ensures ∙ ap (λ n. capped (gates_that (rests_on s.reduced n) s.reduced) c.args.cap) c.node-node.ensures in
     record {
-      runs = counts s e (length c.args.marks.now) c.args.cap (omega arith) (omega arith) (Ok c.in_ok-gates.gates) is;
-      paths = cone-told s.reduced e c.args.cap (cone_of_lem s.reduced (ordered s c.args.session.now.reached) (node_of e)) (Ok c.in_ok-gates.gates) is;
-      marked = record { clear = search rules; number = search rules };
+      runs = counts s e (length c.args.marks.now) c.args.cap (omega arith) (omega arith) c.count.result is;
+      paths = cone-told s.reduced e c.args.cap (cone_of_lem s.reduced (ordered s c.args.session.now.reached) (node_of e)) c.count.result is;
+      marked = marks_wiped _ _ (cone_of s.reduced e) c.args.cap (record { clear = search rules; number = search rules }) c.count.result is;
     }

@@ -1,4 +1,4 @@
-use Rattle.std.proofs.Common.{◌≡◌, ℕ, ◌+◌, ◌-◌, ◌<◌, cond, length, sym, ap, ◌∙◌, subst, arith, length-set}
+use Rattle.std.proofs.Common.{◌≡◌, ℕ, ◌+◌, ◌-◌, ◌<◌, cond, length, sym, ap, ◌∙◌, subst, arith, length-set, rules}
 use Rattle.sweeper.specs.States.{state_in}
 use Rattle.sweeper.proofs.Reaching.{ordered}
 use Rattle.cones.proofs.Passing.{Going, starts, goes_on, more, finished, too_many}
@@ -8,7 +8,7 @@ use Rattle.cones.proofs.counting.count.Goals.{then-spread+else-gates-cap, else-s
 pub loop-node-init : goal.loop-node-init
 loop-node-init c =
     let s = state_in c.args.session.now in
-    (starts s.reduced (ordered s c.args.session.now.reached) c.args.top c.requires.known c.clear.new.marks (omega arith) c.clear.ensures, omega arith)
+    (starts s.reduced (ordered s c.args.session.now.reached) c.args.top c.requires.known c.fill.new.self (omega arith) (search rules), omega arith)
 
 pub loop-node-preserved : goal.loop-node-preserved
 loop-node-preserved c =
