@@ -13,20 +13,19 @@ use cuts::{Cut, Edge};
 use evaluation::{Findings, Side, audit, walk};
 use lookup::Slot;
 use rankings::LeafFacts;
-use search::{Node, ReducedRow};
+use search::{KEPT, Node, ReducedRow};
 use signals::Patterns;
 use sweeper::{Session, SourceRow};
 
 // As many nodes as the design has.
 const NODES: usize = 5;
 
-// Four for each node.
-const CUTS: usize = 20;
+const CUTS: usize = KEPT * NODES;
 
 const OUTPUTS: usize = 1;
 
 // A place for each node and for the constant.
-const PLACES: usize = 6;
+const PLACES: usize = NODES + 1;
 
 // A row to fill a table with.
 const NO_ROW: ReducedRow = ReducedRow {
@@ -39,6 +38,7 @@ const NO_ROW: ReducedRow = ReducedRow {
 fn load_into(session: &mut Session<'_>) -> Findings
     ensures { (t : Tables) → Run positions lean t [] (state_in session.old) → Loads t result }
 {
+    // The answers are let go: the run tells them, and on the design's own tables it refuses none.
     let _ = session.input();
     let _ = session.input();
     let _ = session.gate(&ByHighest, Edge::new(2), Edge::new(5));

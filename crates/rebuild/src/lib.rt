@@ -21,6 +21,7 @@ pub enum RebuildFault {
     Text(TextFault),
 }
 
+// Both conversions stand written out: `from_gives` tells the clauses which variant `?` makes, and a derive has no such member.
 impl From<Short> for RebuildFault {
     ghost from_gives = { λ e r. r ≡ rebuild_fault.Page e };
 
