@@ -1,6 +1,6 @@
 -- The first nodes of a graph, and what one node more adds.
 use Rattle.std.proofs.Common.{◌≡◌, ℕ, suc, ◌+◌, ◌<◌, ◌≤◌, Bool, true, false, cond, eqb, ltb, [], ◌∷◌, length, Some, None, sym, refl, ap, ⊎_elim, add-one, arith}
-use Rattle.std.proofs.lemmas.Bool.{eq-eqb, ne_eqb, lt-ltb, le-ltb, cases_lt, cond_both, eqb-true, ltb-true, ltb-false, or_parts, or_cases}
+use Rattle.std.proofs.lemmas.Bool.{eq-eqb, ne_eqb, lt-ltb, le-ltb, cases_lt, cond_both, ltb-false, or_parts}
 use Rattle.model.specs.Tables.{number}
 use Rattle.model.specs.Graphs.{Node, input, gate, Graph, at, inputs, Ordered}
 use Rattle.sweeper.specs.Reports.{entry, outside}
@@ -51,10 +51,6 @@ inputs-more (gate x y) g = omega arith
 pub front-inputs : (g : Graph) (n : ℕ) → n < length g → inputs (front g (n + 1)) ≡ inputs (front g n) + number (is_input (entry input g (n + 1)))
 front-inputs g n h = rw (add-one n, entry_in g n h, front-more g n h) (inputs-more (at input g (suc n)) (front g n))
 
-pub at_most_one : (b : Bool) → number b ≤ 1
-at_most_one true = omega arith
-at_most_one false = omega arith
-
 pub front-few : (g : Graph) (n : ℕ) → inputs (front g n) ≤ inputs g
 front-few [] n = omega arith
 front-few (nd ∷ g) n = cond_both (ltb n (suc (length g))) (front g n) (nd ∷ g) (λ f. inputs f ≤ inputs (nd ∷ g))
@@ -70,13 +66,3 @@ entry-some g n nd h = go (outside (length g) (n + 1)) refl h
     go false e k =
         let below = ltb-false (length g) (n + 1) (or_parts (eqb (n + 1) 0) (ltb (length g) (n + 1)) e).1 in
         (omega arith, cc)
-
-pub entry-none : (g : Graph) (n : ℕ) → None ≡ entry input g (n + 1) → length g ≤ n
-entry-none g n h = go (outside (length g) (n + 1)) refl h
-  where
-    go : (t : Bool) → outside (length g) (n + 1) ≡ t → None ≡ cond t None (Some (at input g (n + 1))) → length g ≤ n
-    go true e k = ⊎_elim
-        (λ (z : eqb (n + 1) 0 ≡ true). absurd (omega (arith, eqb-true (n + 1) 0 z)))
-        (λ (z : ltb (length g) (n + 1) ≡ true). omega (arith, ltb-true (length g) (n + 1) z))
-        (or_cases (eqb (n + 1) 0) (ltb (length g) (n + 1)) e)
-    go false e k = absurd (let z : ◌≡◌ {A = ℕ} 0 1 = cc in omega arith)
