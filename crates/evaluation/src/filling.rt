@@ -26,6 +26,7 @@ impl Graph<'_, '_> {
     {
         places[0] = S::falsity();
         let mut left = given.iter();
+        // Each number up to the last has a node, and there is a signal for each input.
         for n in 1..=self.nodes() {
             let signal = match self.node(n).unwrap() {
                 Node::Input => *left.next().unwrap(),
