@@ -1,15 +1,16 @@
 -- Lines read and written one after another.
-use Rattle.std.proofs.Common.{◌≡◌, ℕ, ◌+◌, ◌-◌, ◌<◌, ◌≤◌, true, List, [], ◌∷◌, ◌++◌, length, get_or, drop, Some, None, Ok, Err, Result, sym, refl, ap, ◌∙◌, subst, ⊎_elim, append_assoc, append-nil, add-zero, add_assoc, arith, length-append}
+use Rattle.std.proofs.Common.{◌≡◌, ℕ, ◌+◌, ◌-◌, ◌<◌, ◌≤◌, true, List, [], ◌∷◌, ◌++◌, length, get_or, drop, Some, None, Option, Ok, Err, Result, sym, refl, ap, ◌∙◌, subst, ⊎_elim, append_assoc, append-nil, add-zero, add_assoc, arith, length-append}
 use Rattle.std.proofs.lemmas.List.{drop_more, drop_all}
 use Rattle.std.proofs.str.Laws.{order}
 use Rattle.model.specs.Reports.{Line, net}
 use Rattle.model.specs.Texts.{written, text_of}
+use Rattle.pages.specs.declared.line.Line.{Line as Told}
 use Rattle.pages.specs.declared.short.Short.{Short}
+use Rattle.pages.specs.Lines.{line_in}
 use Rattle.pages.specs.Page.{over_at, WritesAt}
 use Rattle.pages.proofs.Over.{over_at-more, over_at-none}
-use Rattle.pages.proofs.Wording.{written-long}
 use Rattle.listing.specs.declared.stage.Stage.{Stage}
-use Rattle.listing.specs.Sections.{next_of, rest_text}
+use Rattle.listing.specs.Sections.{told, next_of, closed, rest_text}
 use Rattle.listing.specs.Stages.{Called, LineCall}
 
 -- ---- the first line that is left
@@ -34,26 +35,23 @@ none-past xs k e = ⊎_elim
     (order k (length xs))
 
 -- ---- the texts of lines
-pub text_more : (xs : List Line) (k : ℕ) (l : Line) → Some l ≡ next_of (drop k xs) → text_of (drop k xs) ≡ written l ++ text_of (drop (k + 1) xs)
-text_more xs k l e = ap text_of (next-is xs k l e)
-
 pub text_end : (xs : List Line) (k : ℕ) → length xs ≤ k → text_of (drop k xs) ≡ []
 text_end xs k h = ap text_of (drop_all k xs h)
+
+-- a line that may be there, and those after it
+pub text_next : (xs : List Line) (k : ℕ) (r : Option Told) → told r ≡ next_of (drop k xs) → text_of (drop k xs) ≡ text_of (closed r) ++ text_of (drop (k + 1) xs)
+text_next xs k (Some l) e = ap text_of (next-is xs k (line_in l) e) ∙ ap (λ t. t ++ text_of (drop (k + 1) xs)) (sym (append-nil (written (line_in l))))
+text_next xs k None e =
+    let past = none-past xs k e in
+    text_end xs k past ∙ sym (text_end xs (k + 1) (omega arith))
 
 pub text_append : (xs ys : List Line) → text_of (xs ++ ys) ≡ text_of xs ++ text_of ys
 text_append [] ys = refl
 text_append (x ∷ xs) ys = ap (λ t. written x ++ t) (text_append xs ys) ∙ sym (append_assoc (written x) (text_of xs) (text_of ys))
 
-pub written-some : (l : Line) → 0 < length (written l)
-written-some l = omega (arith, written-long l)
-
 -- ---- what is left, with the closing line
-pub rest-none : (xs closing : List Line) (k : ℕ) → [] ≡ closing → rest_text xs closing k ≡ text_of (drop k xs)
-rest-none xs closing k e = ap (λ ls. rest_text xs ls k) (sym e) ∙ ap text_of (append-nil (drop k xs))
-
-pub rest-one : (xs closing : List Line) (k : ℕ) (l : Line) → l ∷ [] ≡ closing → rest_text xs closing k ≡ text_of (drop k xs) ++ written l
-rest-one xs closing k l e =
-    ap (λ ls. rest_text xs ls k) (sym e) ∙ text_append (drop k xs) (l ∷ []) ∙ ap (λ t. text_of (drop k xs) ++ t) (append-nil (written l))
+pub rest-parts : (xs closing : List Line) (k : ℕ) (r : Option Told) → closed r ≡ closing → rest_text xs closing k ≡ text_of (drop k xs) ++ text_of (closed r)
+rest-parts xs closing k r e = ap (λ ls. rest_text xs ls k) (sym e) ∙ text_append (drop k xs) (closed r)
 
 pub rest-longer : (xs closing : List Line) (k : ℕ) → length (text_of (drop k xs)) ≤ length (rest_text xs closing k)
 rest-longer xs closing k = omega (arith, ap length (text_append (drop k xs) closing) ∙ length-append (text_of (drop k xs)) (text_of closing))
@@ -81,24 +79,20 @@ module _ (whole rest t rest' : List ℕ) (at : ℕ) (p : List ℕ) (e : ℕ) (q 
   pub room-left : length t ≤ length p - e
   room-left = omega (arith, long, h.place)
 
-  pub within : 0 < length t → at ≤ length p
-  within some = omega (arith, long)
-
-  pub one_more : at ≤ length p → (e' : ℕ) (q' : List ℕ) → e' ≡ e + length t → q' ≡ over_at e t q → Sofar whole rest' at p e' q'
-  one_more l e' q' n o = record {
+  pub one_more : (e' : ℕ) (q' : List ℕ) → e' ≡ e + length t → q' ≡ over_at e t q → Sofar whole rest' at p e' q'
+  one_more e' q' n o = record {
     part = h.part ++ t;
     split = append_assoc h.part t rest' ∙ ap (λ r. h.part ++ r) (sym more) ∙ h.split;
     place = n ∙ ap (λ m. m + length t) h.place ∙ add_assoc at (length h.part) (length t) ∙ ap (λ m. at + m) (sym (length-append h.part t));
-    is = o ∙ ap (λ m. over_at m t q) h.place ∙ ap (over_at (at + length h.part) t) h.is ∙ over_at-more at h.part t p l;
+    is = o ∙ ap (λ m. over_at m t q) h.place ∙ ap (over_at (at + length h.part) t) h.is ∙ over_at-more at h.part t p;
   }
 
 -- the last part, where the whole has room
-pub writes_more : (at : ℕ) (xs ys p q : List ℕ) (e : ℕ) (r : Result ℕ Short) (after : List ℕ) → 0 < length ys → length (xs ++ ys) ≤ length p - at → e ≡ at + length xs → q ≡ over_at at xs p → length q ≡ length p
+pub writes_more : (at : ℕ) (xs ys p q : List ℕ) (e : ℕ) (r : Result ℕ Short) (after : List ℕ) → length (xs ++ ys) ≤ length p - at → e ≡ at + length xs → q ≡ over_at at xs p → length q ≡ length p
     → WritesAt e ys q r after → WritesAt at (xs ++ ys) p r after
-writes_more at xs ys p q e (Ok n) after some room place is same w =
-    let within : at ≤ length p = omega (arith, length-append xs ys) in
-    (omega (arith, w.0, place, length-append xs ys), room, w.2 ∙ ap (λ m. over_at m ys q) place ∙ ap (over_at (at + length xs) ys) is ∙ over_at-more at xs ys p within)
-writes_more at xs ys p q e (Err d) after some room place is same w = absurd (omega (arith, w.1, place, same, length-append xs ys))
+writes_more at xs ys p q e (Ok n) after room place is same w =
+    (omega (arith, w.0, place, length-append xs ys), room, w.2 ∙ ap (λ m. over_at m ys q) place ∙ ap (over_at (at + length xs) ys) is ∙ over_at-more at xs ys p)
+writes_more at xs ys p q e (Err d) after room place is same w = absurd (omega (arith, w.1, place, same, length-append xs ys))
 
 -- ---- line calls
 module _ {S : Type 0} (lines : List Line) (s : Stage S) where

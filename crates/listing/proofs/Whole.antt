@@ -52,7 +52,7 @@ module _ (whole page : List ℕ) (room : length whole ≤ length page) where
 
   pub first : {S : Type 0} (front rest : List ℕ) (stage : Stage S) (p : List ℕ) → whole ≡ front ++ rest → Starts stage (length front) → p ≡ over front page → Up rest stage p
   first front rest stage p e starts is = record {
-    sofar = one_more whole whole front rest 0 page 0 page (none_yet whole 0 page) e (omega arith) (omega arith) stage.at p (starts.0 ∙ sym (zero-add (length front))) is;
+    sofar = one_more whole whole front rest 0 page 0 page (none_yet whole 0 page) e (omega arith) stage.at p (starts.0 ∙ sym (zero-add (length front))) is;
     fresh = starts.1;
   }
 
@@ -61,7 +61,7 @@ module _ (whole page : List ℕ) (room : length whole ≤ length page) where
     went IsAt t p' g =
         let P : ℕ → Type 0 = λ n. IsAt t (stage.at + length (rest_text lines closing n)) × (length (rest_text lines closing n) ≤ length p - stage.at) × (p' ≡ over_at stage.at (rest_text lines closing n) p) in
         let w = subst P up.fresh g in
-        (stage.at + length (rest_text lines closing 0), w.0, one_more whole _ (rest_text lines closing 0) rest 0 page stage.at p up.sofar refl (omega arith) (omega arith) _ p' refl w.2)
+        (stage.at + length (rest_text lines closing 0), w.0, one_more whole _ (rest_text lines closing 0) rest 0 page stage.at p up.sofar refl (omega arith) _ p' refl w.2)
 
     -- no stage declines
     pub has_room : length p ≡ length page → length p - stage.at < length (rest_text lines closing stage.next) → ⊥

@@ -7,6 +7,14 @@ use crate::section::Section;
 use pages::{Key, Line};
 use sweeper::{Outcome, Session};
 
+// The outcomes that are counted, in the order of their lines.
+const COUNTED: [(Key, Outcome); 4] = [
+    (Key::Made, Outcome::Made),
+    (Key::Folded, Outcome::Folded),
+    (Key::Shared, Outcome::Shared),
+    (Key::Merged, Outcome::Merged),
+];
+
 #[derive(Clone, Copy)]
 pub struct Counts;
 
@@ -18,18 +26,12 @@ impl Section for Counts {
     ghost few = { Prim.search rules };
 
     fn count(_session: &Session<'_>) -> usize {
-        4
+        COUNTED.len()
     }
 
     fn line(session: &Session<'_>, k: usize) -> Option<Line> {
-        let tally = session.tally();
-        match k {
-            0 => Some(Line::Number(Key::Made, tally.count(Outcome::Made))),
-            1 => Some(Line::Number(Key::Folded, tally.count(Outcome::Folded))),
-            2 => Some(Line::Number(Key::Shared, tally.count(Outcome::Shared))),
-            3 => Some(Line::Number(Key::Merged, tally.count(Outcome::Merged))),
-            _ => None,
-        }
+        let (key, outcome) = *COUNTED.get(k)?;
+        Some(Line::Number(key, session.tally().count(outcome)))
     }
 
     fn closing_line(_session: &Session<'_>) -> Option<Line> {

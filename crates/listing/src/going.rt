@@ -1,6 +1,6 @@
 // From stage to stage.
-ghost use Rattle.std.specs.Prelude.{◌≡◌, [], ◌∷◌, length};
-ghost use Rattle.model.specs.Reports.{node_lines, lines_of, out, end, tally_lines, mapped, done};
+ghost use Rattle.std.specs.Prelude.{◌≡◌, length, ◌∷◌, []};
+ghost use Rattle.model.specs.Reports.{lines_of, mapped, done};
 ghost use Rattle.sweeper.specs.States.{state_in};
 ghost use Rattle.listing.specs.Stages.{Begins, Starts, GoesOn};
 
@@ -8,9 +8,43 @@ use crate::counts::Counts;
 use crate::maps::Maps;
 use crate::nodes::Nodes;
 use crate::outs::Outs;
+use crate::section::Section;
 use crate::stage::{Declined, MapsStage, NodesStage, OutsStage, Stage, TallyStage};
 use pages::{Key, Line, Short, write_line};
 use sweeper::Session;
+
+// A section that another follows.
+pub trait Followed: Section {
+    type Next;
+
+    // The stage that goes on from the place at, with no line written yet.
+    fn next(at: usize) -> Stage<Self::Next>
+        ensures { Starts result at };
+}
+
+impl Followed for Nodes {
+    type Next = Outs;
+
+    fn next(at: usize) -> OutsStage {
+        Stage::start(Outs, at)
+    }
+}
+
+impl Followed for Outs {
+    type Next = Counts;
+
+    fn next(at: usize) -> TallyStage {
+        Stage::start(Counts, at)
+    }
+}
+
+impl Followed for Counts {
+    type Next = Maps;
+
+    fn next(at: usize) -> MapsStage {
+        Stage::start(Maps, at)
+    }
+}
 
 // Writes the first line of a listing.
 pub fn begin(page: &mut [u8]) -> Result<NodesStage, Short>
@@ -20,45 +54,17 @@ pub fn begin(page: &mut [u8]) -> Result<NodesStage, Short>
     Ok(Stage::start(Nodes, at))
 }
 
-impl Stage<Nodes> {
-    // Writes the node lines that are left.
+impl<S: Followed + Drop> Stage<S> {
+    // Writes the lines that are left and the closing line, if there is one.
     pub fn go_on(
         self,
         session: &Session<'_>,
         page: &mut [u8],
-    ) -> Result<OutsStage, Declined<NodesStage>>
-        ensures { GoesOn (node_lines (state_in session.now).reduced) [] Starts self page.old result page.new }
+    ) -> Result<Stage<S::Next>, Declined<Stage<S>>>
+        ensures { GoesOn (S.lines (state_in session.now)) (S.closing (state_in session.now)) Starts self page.old result page.new }
     {
         let at = self.finish(session, page)?;
-        Ok(Stage::start(Outs, at))
-    }
-}
-
-impl Stage<Outs> {
-    // Writes the out lines that are left and the end line.
-    pub fn go_on(
-        self,
-        session: &Session<'_>,
-        page: &mut [u8],
-    ) -> Result<TallyStage, Declined<OutsStage>>
-        ensures { GoesOn (lines_of out (state_in session.now).outputs) (end (length (state_in session.now).reduced) ∷ []) Starts self page.old result page.new }
-    {
-        let at = self.finish(session, page)?;
-        Ok(Stage::start(Counts, at))
-    }
-}
-
-impl Stage<Counts> {
-    // Writes the tally lines that are left.
-    pub fn go_on(
-        self,
-        session: &Session<'_>,
-        page: &mut [u8],
-    ) -> Result<MapsStage, Declined<TallyStage>>
-        ensures { GoesOn (tally_lines (state_in session.now).tally) [] Starts self page.old result page.new }
-    {
-        let at = self.finish(session, page)?;
-        Ok(Stage::start(Maps, at))
+        Ok(S::next(at))
     }
 }
 

@@ -6,7 +6,7 @@ ghost use Rattle.sweeper.specs.States.{state_in};
 ghost use Rattle.listing.specs.Counted;
 ghost use Rattle.listing.specs.Listed.{numbers_count};
 
-use crate::section::Section;
+use crate::section::{Section, edge_line};
 use pages::{Key, Line};
 use sweeper::Session;
 
@@ -25,11 +25,7 @@ impl Section for Maps {
     }
 
     fn line(session: &Session<'_>, k: usize) -> Option<Line> {
-        if k >= Self::count(session) {
-            return None;
-        }
-        let edge = session.mapped(k + 1)?;
-        Some(Line::Number(Key::Map, edge.number() as u32))
+        edge_line(Key::Map, session.mapped(k.checked_add(1)?))
     }
 
     fn closing_line(session: &Session<'_>) -> Option<Line> {

@@ -23,7 +23,7 @@ fn node_line(number: u32, node: Node) -> Line
 {
     match node {
         Node::Input => Line::Number(Key::In, number),
-        Node::Gate(x, y) => Line::Gate(x.number() as u32, y.number() as u32),
+        Node::Gate(x, y) => Line::Gate(u32::from(x.number()), u32::from(y.number())),
     }
 }
 
@@ -39,11 +39,9 @@ impl Section for Nodes {
     }
 
     fn line(session: &Session<'_>, k: usize) -> Option<Line> {
-        if k >= Self::count(session) {
-            return None;
-        }
-        let row = session.node(k + 1)?;
-        Some(node_line((k + 1) as u32, row.node))
+        let number = k.checked_add(1)?;
+        let row = session.node(number)?;
+        Some(node_line(number as u32, row.node))
     }
 
     fn closing_line(_session: &Session<'_>) -> Option<Line> {

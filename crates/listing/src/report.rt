@@ -11,9 +11,8 @@ use crate::going::begin;
 use crate::maps::Maps;
 use crate::nodes::Nodes;
 use crate::outs::Outs;
-use crate::rest::rest_length;
-use crate::stage::TallyStage;
-use pages::{Key, Line, Short};
+use crate::stage::{Stage, TallyStage};
+use pages::{Key, Line, Short, check_room};
 use sweeper::Session;
 
 fn net_length(session: &Session<'_>) -> usize
@@ -21,13 +20,17 @@ fn net_length(session: &Session<'_>) -> usize
     ensures bound { result ≤ 26 * 32771 }
 {
     let first = Line::Number(Key::Net, 1).length();
-    first + rest_length::<Nodes>(session, 0) + rest_length::<Outs>(session, 0)
+    let nodes = Stage::start(Nodes, 0).rest_length(session);
+    let outs = Stage::start(Outs, 0).rest_length(session);
+    first + nodes + outs
 }
 
 fn report_length(session: &Session<'_>) -> usize
     ensures { result ≡ length (report_text (state_in session.now)) }
 {
-    net_length(session) + rest_length::<Counts>(session, 0) + rest_length::<Maps>(session, 0)
+    let counts = Stage::start(Counts, 0).rest_length(session);
+    let maps = Stage::start(Maps, 0).rest_length(session);
+    net_length(session) + counts + maps
 }
 
 // The net lines by their stages, on a page that has room for them.
@@ -37,8 +40,7 @@ fn net_stages(session: &Session<'_>, page: &mut [u8]) -> Result<TallyStage, Shor
 {
     let nodes = begin(page)?;
     let outs = nodes.go_on(session, page)?;
-    let tally = outs.go_on(session, page)?;
-    Ok(tally)
+    Ok(outs.go_on(session, page)?)
 }
 
 // The listing by its stages, on a page that has room for it.
@@ -48,29 +50,21 @@ fn write_stages(session: &Session<'_>, page: &mut [u8]) -> Result<usize, Short>
 {
     let tally = net_stages(session, page)?;
     let maps = tally.go_on(session, page)?;
-    let end = maps.go_on(session, page)?;
-    Ok(end)
+    Ok(maps.go_on(session, page)?)
 }
 
 // Writes the reduced net, from the net line to the end line, and answers its length, all or nothing.
 pub fn write_net(session: &Session<'_>, page: &mut [u8]) -> Result<usize, Short>
     ensures { Writes (net_text (state_in session.now)) page.old result page.new }
 {
-    let wanted = net_length(session);
-    if page.len() < wanted {
-        return Err(Short { wanted });
-    }
-    let tally = net_stages(session, page)?;
-    Ok(tally.place())
+    check_room(page, 0, net_length(session))?;
+    Ok(net_stages(session, page)?.place())
 }
 
 // Writes the whole listing and answers its length, all or nothing.
 pub fn write_report(session: &Session<'_>, page: &mut [u8]) -> Result<usize, Short>
     ensures { Writes (report_text (state_in session.now)) page.old result page.new }
 {
-    let wanted = report_length(session);
-    if page.len() < wanted {
-        return Err(Short { wanted });
-    }
+    check_room(page, 0, report_length(session))?;
     write_stages(session, page)
 }

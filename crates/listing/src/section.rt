@@ -3,10 +3,14 @@ ghost use Rattle.std.specs.Prelude.{◌≡◌, ◌≤◌, List, length, drop};
 ghost use Rattle.model.specs.Sessions.{State, output_limit};
 ghost use Rattle.model.specs.Reports.{Line as Written};
 ghost use Rattle.sweeper.specs.States.{state_in};
+ghost use Rattle.pages.specs.Lines.{numbered};
+ghost use Rattle.sweeper.specs.Answers.{numbered as edge_number};
 ghost use Rattle.sweeper.specs.declared.session.Session.{Session as Tables};
 ghost use Rattle.listing.specs.Sections.{told, next_of, closed};
+ghost use Rattle.listing.specs.Listed.{tell};
 
-use pages::Line;
+use cuts::Edge;
+use pages::{Key, Line};
 use sweeper::Session;
 
 pub trait Section {
@@ -30,4 +34,11 @@ pub trait Section {
 
     // as few as a session can have
     ghost few: { (s : Tables) → length (lines (state_in s)) ≤ output_limit };
+}
+
+// The line of an edge, if there is one.
+pub(crate) fn edge_line(key: Key, edge: Option<Edge>) -> Option<Line>
+    ensures { told result ≡ tell (numbered key) (edge_number edge) }
+{
+    edge.map(|edge| Line::Number(key, u32::from(edge.number())))
 }

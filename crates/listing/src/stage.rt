@@ -7,7 +7,6 @@ use crate::counts::Counts;
 use crate::maps::Maps;
 use crate::nodes::Nodes;
 use crate::outs::Outs;
-use crate::rest::write_rest;
 use crate::section::Section;
 use pages::{Short, write_line};
 use sweeper::Session;
@@ -16,8 +15,8 @@ use sweeper::Session;
 #[derive(Drop)]
 pub struct Stage<S> {
     section: S,
-    at: usize,
-    next: usize,
+    pub(crate) at: usize,
+    pub(crate) next: usize,
 }
 
 pub type NodesStage = Stage<Nodes>;
@@ -66,7 +65,7 @@ impl<S> Stage<S> {
 impl<S: Section + Drop> Stage<S> {
     // Writes the next line, or answers that none is left.
     pub fn line(&mut self, session: &Session<'_>, page: &mut [u8]) -> Result<bool, Short>
-        ensures { LineCall (S.Section.lines (state_in session.now)) self.old page.old result self.new page.new }
+        ensures { LineCall (S.lines (state_in session.now)) self.old page.old result self.new page.new }
     {
         let Some(line) = S::line(session, self.next) else {
             return Ok(false);
@@ -82,7 +81,7 @@ impl<S: Section + Drop> Stage<S> {
         session: &Session<'_>,
         page: &mut [u8],
     ) -> Result<(Stage<S>, bool), Declined<Stage<S>>>
-        ensures { MovedCall (S.Section.lines (state_in session.now)) self page.old result page.new }
+        ensures { MovedCall (S.lines (state_in session.now)) self page.old result page.new }
     {
         let mut stage = self;
         match stage.line(session, page) {
@@ -97,11 +96,9 @@ impl<S: Section + Drop> Stage<S> {
         session: &Session<'_>,
         page: &mut [u8],
     ) -> Result<usize, Declined<Stage<S>>>
-        ensures { GoesOn (S.Section.lines (state_in session.now)) (S.Section.closing (state_in session.now)) ◌≡◌ self page.old result page.new }
+        ensures { GoesOn (S.lines (state_in session.now)) (S.closing (state_in session.now)) ◌≡◌ self page.old result page.new }
     {
-        match write_rest::<S>(session, self.next, page, self.at) {
-            Ok(end) => Ok(end),
-            Err(short) => Err(Declined { stage: self, short }),
-        }
+        self.write_rest(session, page)
+            .map_err(|short| Declined { stage: self, short })
     }
 }

@@ -7,5 +7,5 @@ mod short;
 mod writing;
 
 pub use line::{Key, Line};
-pub use short::Short;
+pub use short::{Short, check_room};
 pub use writing::write_line;

@@ -3,7 +3,7 @@ ghost use Rattle.std.specs.Prelude.{◌≡◌, ◌≤◌, length};
 ghost use Rattle.model.specs.Texts.{written};
 ghost use Rattle.pages.specs.Lines.{line_in, key_text};
 
-use crate::parts::width;
+use crate::parts::Part;
 
 // The key of a line with one number.
 #[derive(Clone, Copy)]
@@ -53,8 +53,8 @@ impl Line {
         ensures bound { result ≤ 26 }
     {
         match self {
-            Line::Number(key, n) => key.text().len() + width(n) + 1,
-            Line::Gate(x, y) => width(x) + width(y) + 6,
+            Line::Number(key, n) => key.text().width() + n.width() + 1,
+            Line::Gate(x, y) => x.width() + y.width() + 6,
         }
     }
 }

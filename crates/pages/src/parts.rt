@@ -1,16 +1,50 @@
 // Numbers and texts, the parts of a line.
-ghost use Rattle.std.specs.Prelude.{◌≡◌, ◌+◌, ◌≤◌, length, decimal};
+ghost use Rattle.std.specs.Prelude.{◌≡◌, ℕ, ◌+◌, ◌≤◌, List, length, decimal};
 ghost use Rattle.pages.specs.Page.{over, over_at};
 
-// How many digits n has.
-pub(crate) fn width(n: u32) -> usize
-    ensures value { result ≡ length (decimal n) }
-    ensures bound { result ≤ 10 }
-{
-    if n < 10 { 1 } else { width(n / 10) + 1 }
+// What a line is written from.
+pub(crate) trait Part: Copy {
+    // its bytes
+    ghost bytes: { Self → List ℕ };
+
+    // How many bytes it has.
+    fn width(self) -> usize
+        ensures { result ≡ length (bytes self) };
+
+    // Writes its bytes to the front of out, and answers how many.
+    fn put(self, out: &mut [u8]) -> usize
+        requires { length (bytes self) ≤ length out.old }
+        ensures value { result ≡ length (bytes self) }
+        ensures after { out.new ≡ over (bytes self) out.old };
 }
 
-// Writes the digits of n to the front of out, and answers how many.
+impl Part for u32 {
+    ghost bytes = { decimal };
+
+    fn width(self) -> usize {
+        self.max(1).ilog10() as usize + 1
+    }
+
+    fn put(self, out: &mut [u8]) -> usize {
+        put_number(out, self)
+    }
+}
+
+impl Part for &[u8] {
+    ghost bytes = { λ text. text.now };
+
+    fn width(self) -> usize {
+        self.len()
+    }
+
+    fn put(self, out: &mut [u8]) -> usize {
+        let n = self.len();
+        out[..n].copy_from_slice(self);
+        n
+    }
+}
+
+// Writes the digits of n to the front of out, and answers how many: by recursion, the first digit first.
 fn put_number(out: &mut [u8], n: u32) -> usize
     requires { length (decimal n) ≤ length out.old }
     ensures value { result ≡ length (decimal n) }
@@ -21,31 +55,11 @@ fn put_number(out: &mut [u8], n: u32) -> usize
     at + 1
 }
 
-// Writes the text to the front of out, and answers how long it is.
-pub(crate) fn put_text(out: &mut [u8], text: &[u8]) -> usize
-    requires { length text.now ≤ length out.old }
-    ensures value { result ≡ length text.now }
-    ensures after { out.new ≡ over text.now out.old }
+// Writes the part from the place at on, and answers the place after it.
+pub(crate) fn add<P: Part>(page: &mut [u8], at: usize, part: P) -> usize
+    requires { at + length (P.bytes part) ≤ length page.old }
+    ensures value { result ≡ at + length (P.bytes part) }
+    ensures after { page.new ≡ over_at at (P.bytes part) page.old }
 {
-    let n = text.len();
-    out[0..n].copy_from_slice(text);
-    n
-}
-
-// Writes the digits of n from the place at on, and answers the place after them.
-pub(crate) fn add_number(page: &mut [u8], at: usize, n: u32) -> usize
-    requires { at + length (decimal n) ≤ length page.old }
-    ensures value { result ≡ at + length (decimal n) }
-    ensures after { page.new ≡ over_at at (decimal n) page.old }
-{
-    at + put_number(&mut page[at..], n)
-}
-
-// Writes the text from the place at on, and answers the place after it.
-pub(crate) fn add_text(page: &mut [u8], at: usize, text: &[u8]) -> usize
-    requires { at + length text.now ≤ length page.old }
-    ensures value { result ≡ at + length text.now }
-    ensures after { page.new ≡ over_at at text.now page.old }
-{
-    at + put_text(&mut page[at..], text)
+    at + part.put(&mut page[at..])
 }

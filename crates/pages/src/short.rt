@@ -1,5 +1,5 @@
 // What is left of a page is too short.
-ghost use Rattle.std.specs.Prelude.{◌≡◌};
+ghost use Rattle.std.specs.Prelude.{◌≡◌, ◌-◌, ◌<◌, ◌≤◌, length, MatchResult};
 ghost use Rattle.model.specs.Sessions.{too_short, refusal_number, refusal_value};
 
 // The length that was wanted.
@@ -22,4 +22,14 @@ impl Short {
     {
         self.wanted
     }
+}
+
+// Whether what is wanted has room on the page from the place at on. A page that ends before the place has none.
+pub fn check_room(page: &[u8], at: usize, wanted: usize) -> Result<(), Short>
+    ensures { MatchResult result (λ _. wanted ≤ length page.now - at) (λ e. (e.wanted ≡ wanted) × (length page.now - at < wanted)) }
+{
+    if page.len().saturating_sub(at) < wanted {
+        return Err(Short { wanted });
+    }
+    Ok(())
 }

@@ -6,8 +6,8 @@ ghost use Rattle.pages.specs.Lines.{numbered, line_in};
 ghost use Rattle.pages.specs.Page.{over, WritesAt};
 
 use crate::line::{Key, Line};
-use crate::parts::{add_number, add_text, put_text};
-use crate::short::Short;
+use crate::parts::{Part, add};
+use crate::short::{Short, check_room};
 
 // Writes a key and a number to the front of out, and answers how long they are.
 fn put_numbered(out: &mut [u8], key: Key, n: u32) -> usize
@@ -15,8 +15,8 @@ fn put_numbered(out: &mut [u8], key: Key, n: u32) -> usize
     ensures value { result ≡ length (line_text (numbered key n)) }
     ensures after { out.new ≡ over (line_text (numbered key n)) out.old }
 {
-    let number = put_text(out, key.text());
-    add_number(out, number, n)
+    let number = key.text().put(out);
+    add(out, number, n)
 }
 
 // Writes the gate of two fanin edges to the front of out, and answers how long it is.
@@ -25,10 +25,10 @@ fn put_gate(out: &mut [u8], x: u32, y: u32) -> usize
     ensures value { result ≡ length (line_text (a_gate x y)) }
     ensures after { out.new ≡ over (line_text (a_gate x y)) out.old }
 {
-    let first = put_text(out, b"and=");
-    let comma = add_number(out, first, x);
-    let second = add_text(out, comma, b",");
-    add_number(out, second, y)
+    let first = add::<&[u8]>(out, 0, b"and=");
+    let comma = add(out, first, x);
+    let second = add::<&[u8]>(out, comma, b",");
+    add(out, second, y)
 }
 
 // Writes the line to the front of out, and answers how long it is.
@@ -41,16 +41,13 @@ fn put_line(out: &mut [u8], line: Line) -> usize
         Line::Number(key, n) => put_numbered(out, key, n),
         Line::Gate(x, y) => put_gate(out, x, y),
     };
-    add_text(out, end, b"\n")
+    add::<&[u8]>(out, end, b"\n")
 }
 
 // Writes the line from the place at on, and answers the place after it.
 pub fn write_line(page: &mut [u8], at: usize, line: Line) -> Result<usize, Short>
     ensures { WritesAt at (written (line_in line)) page.old result page.new }
 {
-    let wanted = line.length();
-    if page.len() < at || page.len() - at < wanted {
-        return Err(Short { wanted });
-    }
+    check_room(page, at, line.length())?;
     Ok(at + put_line(&mut page[at..], line))
 }

@@ -22,15 +22,15 @@ returns-in_err-maps c =
     let e = c.in_err-maps.ensures in
     absurd (has_room whole page c.requires (tally_lines s.tally) [] (maps_on s) c.in_ok-tally.tally _ tally (omega arith) e.1)
 
-pub returns-in_err-end : goal.returns-in_err-end
-returns-in_err-end c =
+pub returns-in_err-go_on : goal.returns-in_err-go_on
+returns-in_err-go_on c =
     let s = state_in c.args.session.now in
     let page = c.args.page.now in
     let whole = report_text s in
     let b = c.in_ok-tally.ensures in
     let tally = first whole page c.requires (net_text s) (tally_on s) c.in_ok-tally.tally _ (parted s) b.0 b.1 in
     let maps = next whole page c.requires (tally_lines s.tally) [] (maps_on s) c.in_ok-tally.tally _ tally c.in_ok-maps.maps _ c.in_ok-maps.ensures in
-    let e = c.in_err-end.ensures in
+    let e = c.in_err-go_on.ensures in
     absurd (has_room whole page c.requires (lines_of mapped s.mapped) (done (length s.source) ∷ []) [] c.in_ok-maps.maps _ maps (omega arith) e.1)
 
 pub returns : goal.returns
@@ -41,4 +41,4 @@ returns c =
     let b = c.in_ok-tally.ensures in
     let tally = first whole page c.requires (net_text s) (tally_on s) c.in_ok-tally.tally _ (parted s) b.0 b.1 in
     let maps = next whole page c.requires (tally_lines s.tally) [] (maps_on s) c.in_ok-tally.tally _ tally c.in_ok-maps.maps _ c.in_ok-maps.ensures in
-    last whole page c.requires (lines_of mapped s.mapped) (done (length s.source) ∷ []) c.in_ok-maps.maps _ maps _ _ c.in_ok-end.ensures
+    last whole page c.requires (lines_of mapped s.mapped) (done (length s.source) ∷ []) c.in_ok-maps.maps _ maps _ _ c.in_ok-go_on.ensures

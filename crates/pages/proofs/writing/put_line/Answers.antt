@@ -18,8 +18,8 @@ put_gate-end-requires c =
     let is = ap (λ l. length (written (line_in l))) c.in-Gate.is in
     omega (arith, is, written-long (and c.in-Gate.x c.in-Gate.y))
 
-pub add_text-requires : goal.add_text-requires
-add_text-requires c = elim c.match-line.branch [
+pub add-requires : goal.add-requires
+add-requires c = elim c.match-line.branch [
   | in-Number w ↦
       let is = ap (λ l. length (written (line_in l))) w.in-Number.is in
       omega (arith, is, w.end-is, w.put_numbered-end.ensures.value, written-long (numbered w.in-Number.key w.in-Number.n))
@@ -42,5 +42,5 @@ returns c =
           let is = sym w.in-Gate.is in
           record { long = w.end-is ∙ e.value ∙ ap (λ l. length (line_text (line_in l))) is; is = w.out-is ∙ e.after ∙ ap (λ l. over (line_text (line_in l)) page) is }
     ] in
-    let whole = on_more _ (10 ∷ []) page _ _ _ _ front c.add_text.ensures.value c.add_text.ensures.after in
+    let whole = on_more _ (10 ∷ []) page _ _ _ _ front c.add.ensures.value c.add.ensures.after in
     record { value = whole.long; after = whole.is }

@@ -1,15 +1,18 @@
-use Rattle.std.proofs.Common.{Some, None, ap, ◌∙◌, arith}
+use Rattle.std.proofs.Common.{ap, ◌∙◌, arith}
 use Rattle.model.specs.Reports.{lines_of, out}
 use Rattle.sweeper.specs.States.{state_in}
-use Rattle.listing.specs.Listed.{numbers_tell, next_none}
+use Rattle.sweeper.specs.Reports.{entry}
+use Rattle.listing.specs.Counted.{few}
+use Rattle.listing.specs.Listed.{numbers_count, numbers_tell, next_none}
 use Rattle.listing.proofs.outs.OutsSection.line.Goals as goal
 
-pub returns-then-k-count : goal.returns-then-k-count
-returns-then-k-count c = next_none (lines_of out (state_in c.args.session.now).outputs) c.args.k (omega arith)
-
-pub returns-in_err-edge : goal.returns-in_err-edge
-returns-in_err-edge c =
-    rw c.from_residual.ensures (numbers_tell out (state_in c.args.session.now).outputs c.args.k None c.in_err-edge.ensures)
+pub returns-in_err-checked_add : goal.returns-in_err-checked_add
+returns-in_err-checked_add c =
+    let s = c.args.session.now in
+    let ns = (state_in s).outputs in
+    rw c.from_residual.ensures (next_none (lines_of out ns) c.args.k (omega (arith, numbers_count out ns, few s, c.in_err-checked_add.ensures)))
 
 pub returns : goal.returns
-returns c = numbers_tell out (state_in c.args.session.now).outputs c.args.k (Some _) (ap Some c.number.ensures ∙ c.in_ok-edge.ensures)
+returns c =
+    let ns = (state_in c.args.session.now).outputs in
+    c.edge_line.ensures ∙ numbers_tell out ns c.args.k _ (c.output_edge.ensures ∙ ap (entry 0 ns) c.in_ok-checked_add.ensures.1)
