@@ -1,5 +1,5 @@
 -- What the tables stand for: the state of a session in the model.
-use Rattle.std.specs.Prelude.{◌≡◌, ℕ, zero, suc, ◌+◌, ◌*◌, ◌<◌, ◌≤◌, List, [], ◌∷◌, ◌++◌, map, length, get_or, take, drop, Some, None, Option, slice_index_or, slice_set}
+use Rattle.std.specs.Prelude.{◌≡◌, refl, ℕ, zero, suc, ◌+◌, ◌*◌, ◌<◌, ◌≤◌, List, [], ◌∷◌, ◌++◌, map, length, get_or, take, drop, Some, None, Option, slice_index_or, slice_set}
 use Rattle.model.specs.Cuts.{Cut as Meant, key_list, key_sign}
 use Rattle.model.specs.Keys.{first_of}
 use Rattle.model.specs.Rankings.{Every, Before}
@@ -7,6 +7,7 @@ use Rattle.model.specs.Search.{Decision, chosen, by_leaves, leaf_in, search_in}
 use Rattle.model.specs.Graphs.{input, gate, Graph, height, uses, find_pair, find_key, or_else}
 use Rattle.model.specs.Graphs as graph
 use Rattle.model.specs.Sessions.{State, positions, lean}
+use Rattle.model.specs.Sessions as model
 use Rattle.cuts.specs.declared.edge.Edge.{Edge}
 use Rattle.cuts.specs.declared.cut.Cut.{Cut}
 use Rattle.cuts.specs.Meaning.{meaning}
@@ -18,9 +19,11 @@ use Rattle.lookup.specs.Entries.{Tidy, taken, Stands}
 use Rattle.search.specs.declared.rows.Node.{Node}
 use Rattle.search.specs.declared.rows.Node.TheVariants.{Input, Gate}
 use Rattle.sweeper.specs.declared.rows.SourceRow.{SourceRow}
+use Rattle.sweeper.specs.declared.rows.TheConstants.SourceRow.{EMPTY}
 use Rattle.search.specs.declared.rows.ReducedRow.{ReducedRow}
 use Rattle.search.specs.Leaves.{no_row}
 use Rattle.sweeper.specs.declared.core_state.Core.{Core}
+use Rattle.sweeper.specs.declared.tables.Tables.{Tables}
 use Rattle.cuts.specs.declared.key.CutKey.{CutKey}
 use Rattle.lookup.specs.declared.slot.Slot.{Slot}
 use Rattle.lookup.specs.declared.fanin_pair.FaninPair.{FaninPair}
@@ -35,6 +38,9 @@ node_in (Gate a b) = gate a.number b.number
 
 abbrev pub no_source : SourceRow
 no_source = record { node = Input; mapped = record { number = 0 } }
+
+pub empty_lem : EMPTY ≡ no_source
+empty_lem = refl
 
 abbrev pub no_reduced : ReducedRow
 no_reduced = no_row
@@ -63,6 +69,17 @@ reduced_of rows n = newest (λ r. node_in r.node) no_reduced rows n
 
 abbrev pub outputs_of : List Edge → ℕ → List ℕ
 outputs_of rows n = newest (λ e. e.number) no_edge rows n
+
+-- how long the tables are that a caller lends
+abbrev pub lengths_of : Tables → model.Tables
+lengths_of t = record {
+  source = length t.source.now;
+  reduced = length t.reduced.now;
+  cuts = length t.cuts.now;
+  pairs = length t.pairs.now;
+  keys = length t.keys.now;
+  outputs = length t.outputs.now;
+}
 
 -- the tables and counts, as lists and numbers
 pub record Image : Type 0 where

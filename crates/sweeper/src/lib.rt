@@ -16,10 +16,12 @@ mod refusal;
 mod reports;
 mod rows;
 mod session;
+mod tables;
 mod tally;
 
 pub use accepting::Swept;
 pub use refusal::Refusal;
 pub use rows::SourceRow;
 pub use session::Session;
+pub use tables::Tables;
 pub use tally::{Outcome, Tally};

@@ -1,14 +1,13 @@
 // Opening on tables of any length.
-ghost use Rattle.std.specs.Prelude.{◌≡◌, length, take};
-ghost use Rattle.model.specs.Sessions.{opened};
-ghost use Rattle.sweeper.specs.Tables.{Sound, image, state_of};
+ghost use Rattle.std.specs.Prelude.{◌≡◌, take};
+ghost use Rattle.model.specs.Sessions.{opened, output_limit};
+ghost use Rattle.sweeper.specs.Tables.{Sound, image, state_of, lengths_of};
 
 use crate::core_state::Core;
-use crate::rows::SourceRow;
+use crate::tables::Tables;
 use crate::tally::Tally;
-use cuts::{Cut, CutKey, Edge};
-use lookup::{FaninPair, Slot, SlotTable};
-use search::{KEPT, ReducedRow};
+use lookup::SlotTable;
+use search::KEPT;
 
 // The most nodes of a graph, without the constant.
 const NODES: usize = 16383;
@@ -17,21 +16,22 @@ const NODES: usize = 16383;
 const OUTPUTS: usize = 16384;
 
 impl<'a> Core<'a> {
-    pub(crate) fn open(
-        source: &'a mut [SourceRow],
-        reduced: &'a mut [ReducedRow],
-        cuts: &'a mut [Cut],
-        pairs: &'a mut [Slot<FaninPair>],
-        keys: &'a mut [Slot<CutKey>],
-        outputs: &'a mut [Edge],
-    ) -> Core<'a>
+    pub(crate) fn open(tables: Tables<'a>) -> Core<'a>
         ensures sound { Sound (image result) }
-        ensures source { result.source.now ≡ source.old }
-        ensures reduced { result.reduced.now ≡ reduced.old }
-        ensures cuts { result.cuts.now ≡ cuts.old }
-        ensures outputs { result.outputs.now ≡ take 16384 outputs.old }
-        ensures state { state_of (image result) ≡ opened (record { source = length source.entry.now; reduced = length reduced.old; cuts = length cuts.old; pairs = length pairs.old; keys = length keys.old; outputs = length outputs.old }) }
+        ensures source { result.source.now ≡ tables.entry.source.now }
+        ensures reduced { result.reduced.now ≡ tables.entry.reduced.now }
+        ensures cuts { result.cuts.now ≡ tables.entry.cuts.now }
+        ensures outputs { result.outputs.now ≡ take output_limit tables.entry.outputs.now }
+        ensures state { state_of (image result) ≡ opened (lengths_of tables.entry) }
     {
+        let Tables {
+            source,
+            reduced,
+            cuts,
+            pairs,
+            keys,
+            outputs,
+        } = tables;
         let by_cuts = (cuts.len() / KEPT).min(keys.len() / KEPT);
         let by_rows = source
             .len()

@@ -1,7 +1,4 @@
 // The rows of the source table; those of the reduced graph are the search's.
-ghost use Rattle.std.specs.Prelude.{◌≡◌};
-ghost use Rattle.sweeper.specs.Tables.{no_source};
-
 use cuts::Edge;
 use search::Node;
 
@@ -14,12 +11,8 @@ pub struct SourceRow {
 
 impl SourceRow {
     // A row to fill a table with before it is lent.
-    pub fn empty() -> SourceRow
-        ensures { result ≡ no_source }
-    {
-        SourceRow {
-            node: Node::Input,
-            mapped: Edge::FALSE,
-        }
-    }
+    pub const EMPTY: SourceRow = SourceRow {
+        node: Node::Input,
+        mapped: Edge::FALSE,
+    };
 }

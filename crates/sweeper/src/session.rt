@@ -1,20 +1,18 @@
 // A sweeping session: the tables, and the facts that every call needs and keeps.
-ghost use Rattle.std.specs.Prelude.{◌≡◌, [], length, take};
+ghost use Rattle.std.specs.Prelude.{◌≡◌, [], take};
 ghost use Rattle.model.specs.Runs.{Run};
 ghost use Rattle.model.specs.RunLaws.{Extends};
-ghost use Rattle.model.specs.Sessions.{positions, lean, input_call, output_call, map_call};
-ghost use Rattle.sweeper.specs.Tables.{Sound, image, state_of, Rest};
+ghost use Rattle.model.specs.Sessions.{positions, lean, output_limit, input_call, output_call, map_call};
+ghost use Rattle.sweeper.specs.Tables.{Sound, image, state_of, lengths_of, Rest};
 ghost use Rattle.sweeper.specs.Answers.{told_node, told_edge, told_swept, GateExtends, Refused};
 ghost use Rattle.sweeper.specs.Runs.{Reached};
 
 use crate::accepting::Swept;
 use crate::core_state::Core;
 use crate::refusal::Refusal;
-use crate::rows::SourceRow;
-use cuts::{Cut, CutKey, Edge};
-use lookup::{FaninPair, Slot};
+use crate::tables::Tables;
+use cuts::Edge;
 use rankings::Ranking;
-use search::ReducedRow;
 
 #[derive(Drop)]
 pub struct Session<'a> {
@@ -27,22 +25,15 @@ pub struct Session<'a> {
 
 impl<'a> Session<'a> {
     // Opens a session on tables of any length, whatever they hold.
-    pub fn open(
-        source: &'a mut [SourceRow],
-        reduced: &'a mut [ReducedRow],
-        cuts: &'a mut [Cut],
-        pairs: &'a mut [Slot<FaninPair>],
-        keys: &'a mut [Slot<CutKey>],
-        outputs: &'a mut [Edge],
-    ) -> Session<'a>
-        ensures source { result.core.source.now ≡ source.old }
-        ensures reduced { result.core.reduced.now ≡ reduced.old }
-        ensures cuts { result.core.cuts.now ≡ cuts.old }
-        ensures outputs { result.core.outputs.now ≡ take 16384 outputs.old }
-        ensures run { Run positions lean (record { source = length source.entry.now; reduced = length reduced.old; cuts = length cuts.old; pairs = length pairs.old; keys = length keys.old; outputs = length outputs.old }) [] (state_of (image result.core)) }
+    pub fn open(tables: Tables<'a>) -> Session<'a>
+        ensures source { result.core.source.now ≡ tables.entry.source.now }
+        ensures reduced { result.core.reduced.now ≡ tables.entry.reduced.now }
+        ensures cuts { result.core.cuts.now ≡ tables.entry.cuts.now }
+        ensures outputs { result.core.outputs.now ≡ take output_limit tables.entry.outputs.now }
+        ensures run { Run positions lean (lengths_of tables.entry) [] (state_of (image result.core)) }
     {
         Session {
-            core: Core::open(source, reduced, cuts, pairs, keys, outputs),
+            core: Core::open(tables),
         }
     }
 
