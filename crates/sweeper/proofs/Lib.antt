@@ -4,7 +4,6 @@ pub mod Inputting
 pub mod Mapping
 pub mod Storing
 pub mod Growth
-pub mod Facts
 pub mod Gated
 pub mod Looking
 pub mod Sweeping

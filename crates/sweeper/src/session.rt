@@ -1,5 +1,6 @@
 // A sweeping session: the tables, and the facts that every call needs and keeps.
 ghost use Rattle.std.specs.Prelude.{◌≡◌, [], take};
+ghost use Rattle.std.proofs.Props.{props};
 ghost use Rattle.model.specs.Runs.{Run};
 ghost use Rattle.model.specs.RunLaws.{Extends};
 ghost use Rattle.model.specs.Sessions.{positions, lean, output_limit, input_call, output_call, map_call};
@@ -18,7 +19,7 @@ use rankings::Ranking;
 pub struct Session<'a> {
     pub(crate) core: Core<'a>,
     // the tables stand for the graphs
-    ghost sound: { ∥ Sound (image core) ∥₁ },
+    ghost sound: { Sound (image core) } by { Prim.hlevel props },
     // some run of calls leads here
     ghost reached: { Reached (state_of (image core)) },
 }

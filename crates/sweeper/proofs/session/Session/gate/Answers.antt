@@ -1,14 +1,12 @@
 use Rattle.model.proofs.Sound.{extends}
-use Rattle.sweeper.specs.Tables.{image}
-use Rattle.sweeper.proofs.Facts.{facts}
 use Rattle.sweeper.proofs.Reaching.{reached-more}
 use Rattle.sweeper.proofs.session.Session.gate.Goals as goal
 
 pub gate-requires : goal.gate-requires
-gate-requires g c = record { sound = facts (image c.args.self.now.core) c.args.self.now.sound; reached = c.args.self.now.reached }
+gate-requires g c = record { sound = c.args.self.now.sound; reached = c.args.self.now.reached }
 
 pub invariant_of-self : goal.invariant_of-self
-invariant_of-self g c = record { sound = ∣ c.gate.ensures.kept ∣₁; reached = reached-more c.gate.ensures.gates.steps c.args.self.now.reached }
+invariant_of-self g c = record { sound = c.gate.ensures.kept; reached = reached-more c.gate.ensures.gates.steps c.args.self.now.reached }
 
 pub returns : goal.returns
 returns g c = record {

@@ -2,7 +2,7 @@ use Rattle.model.specs.Runs.{opening}
 use Rattle.sweeper.proofs.session.Session.open.Goals as goal
 
 pub invariant_of-result : goal.invariant_of-result
-invariant_of-result c = record { sound = ∣ c.open.ensures.sound ∣₁; reached = ∣ record { tables = _; events = _; run = opening c.open.ensures.state } ∣₁ }
+invariant_of-result c = record { sound = c.open.ensures.sound; reached = ∣ record { tables = _; events = _; run = opening c.open.ensures.state } ∣₁ }
 
 pub returns : goal.returns
 returns c = record {
