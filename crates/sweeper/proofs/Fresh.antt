@@ -31,6 +31,11 @@ take_min n xs = ⊎_elim
     (λ (h : n < length xs). ap (λ k. take k xs) (omega arith))
     (λ (h : length xs ≤ n). ap (λ k. take k xs) (omega arith) ∙ take_all (length xs) xs (omega arith) ∙ sym (take_all n xs h)) (cases_lt n (length xs))
 
+-- the capacity is worked out from the shortest table on
+pub capacity_lem : (t : Tables) (by_cuts by_pairs by_reduced by_rows most : ℕ) → by_cuts ≡ min (t.cuts / 4) (t.keys / 4) → by_pairs ≡ min t.pairs by_cuts → by_reduced ≡ min t.reduced by_pairs
+    → by_rows ≡ min t.source by_reduced → most ≡ min node_limit by_rows → most ≡ capacity_of node_limit 4 t
+capacity_lem t by_cuts by_pairs by_reduced by_rows most a b c d e = e ∙ ap (min node_limit) (d ∙ ap (min t.source) (c ∙ ap (min t.reduced) (b ∙ ap (min t.pairs) a)))
+
 quarter : (n m : ℕ) → m ≤ n / 4 → 4 * m ≤ n
 quarter n m h = omega arith
 

@@ -1,5 +1,6 @@
 -- What a search is told of leaves and cuts is what the graph has.
-use Rattle.std.proofs.Common.{◌≡◌, ℕ, suc, ◌-◌, ◌*◌, ◌<◌, ◌≤◌, Bool, List, [], ◌∷◌, map, length, get_or, take, drop, Option, sym, ap, ◌∙◌, ⊎_elim, arith, length-take-le, take_all, get_or-take}
+use Rattle.std.proofs.Common.{◌≡◌, ℕ, suc, ◌-◌, ◌*◌, ◌<◌, ◌≤◌, Bool, List, [], ◌∷◌, map, length, get_or, take, drop, Option, sym, refl, ap, ◌∙◌, ⊎_elim, arith, length-take, length-take-le, take_all, get_or-take}
+use lib.ListN.{length-map}
 use Rattle.std.proofs.lemmas.Bool.{cases_eq, cases_lt, ne_eqb}
 use Rattle.std.proofs.lemmas.List.{get_or_past}
 use Rattle.model.specs.Cuts.{trivial}
@@ -15,7 +16,7 @@ use Rattle.search.specs.Leaves.{leaf_at, no_row}
 use Rattle.search.specs.Fanins.{limits_of, most}
 use Rattle.sweeper.specs.Runs.{Reached}
 use Rattle.sweeper.specs.Tables.{Image, Sound, state_of, graph_of, kept_of, node_in, no_reduced, by_cuts}
-use Rattle.sweeper.proofs.Newest.{newest-length, kept_at}
+use Rattle.sweeper.proofs.Newest.{newest-length, kept-length, kept_at}
 use Rattle.sweeper.proofs.Reaching.{unused}
 
 module _ (c : Image) (s : Sound c) where
@@ -24,6 +25,23 @@ module _ (c : Image) (s : Sound c) where
   rows_of n k h l e =
       let z : suc (n - 1) ≡ n = omega arith in
       ap (λ m. map meaning (take m (drop (4 * (n - 1)) c.cuts))) e ∙ sym (kept_at c.cuts c.reduced c.nodes (n - 1) (omega arith)) ∙ ap (at [] (kept_of c)) z
+
+  pub kept_few : (n : ℕ) (xs : List Cut) → map meaning xs ≡ at [] (kept_of c) n → length xs ≤ 4
+  kept_few n xs is = ⊎_elim
+      (λ (z : n ≡ 0). none (is ∙ ap (at [] (kept_of c)) z ∙ at_zero [] (kept_of c)))
+      (λ (z : n ≡ 0 → ⊥). ⊎_elim
+      (λ (h : c.nodes < n). none (is ∙ at_none [] (kept_of c) n (omega (arith, kept-length c.cuts c.reduced c.nodes))))
+      (λ (h : n ≤ c.nodes). some (omega arith) h) (cases_lt c.nodes n))
+      (cases_eq n 0)
+    where
+      none : map meaning xs ≡ [] → length xs ≤ 4
+      none e = omega (arith, length-map xs meaning, ap length e)
+
+      some : 0 < n → n ≤ c.nodes → length xs ≤ 4
+      some h l =
+          let k = (get_or c.reduced (n - 1) no_reduced).kept in
+          let rows = drop (4 * (n - 1)) c.cuts in
+          omega (arith, length-map xs meaning, ap length (is ∙ sym (rows_of n k h l refl)), length-map (take k rows) meaning, length-take k rows, s.kept (n - 1) (omega arith))
 
   pub leaves-are : Reached (state_of c) → (rows : List _) → rows ≡ take c.nodes c.reduced → (l : ℕ) → leaf_at rows l ≡ leaf_in (graph_of c) l
   leaves-are reached rows is l = ap (λ r. leaf_at r l) is ∙ ⊎_elim

@@ -1,6 +1,6 @@
 -- Mapped edges and outputs, as the tables hold them.
-use Rattle.std.proofs.Common.{◌≡◌, ℕ, suc, ◌+◌, ◌-◌, ◌<◌, ◌≤◌, Bool, true, false, cond, ltb, ◌∷◌, length, get_or, set, sym, refl, ap, ◌∙◌, ap₂, arith, length-set}
-use Rattle.std.proofs.lemmas.Bool.{le-leb, lt-leb, lt-ltb, le-ltb}
+use Rattle.std.proofs.Common.{◌≡◌, ℕ, ◌+◌, ◌<◌, ◌≤◌, Bool, true, false, cond, ltb, ◌∷◌, length, set, Some, None, Ok, Err, Result, ⊎_elim, sym, refl, ap, ◌∙◌, ap₂, arith, length-set}
+use Rattle.std.proofs.lemmas.Bool.{le-leb, lt-leb, lt-ltb, le-ltb, cases_lt}
 use Rattle.model.specs.Edges.{node_of, sign_of, signed}
 use Rattle.model.specs.Graphs.{at}
 use Rattle.model.specs.Sessions.{State, positions, step, map_call, output_call, map_edge, knows, map_answer, looks, with_output}
@@ -9,7 +9,13 @@ use Rattle.model.specs.Runs.{Steps}
 use Rattle.model.proofs.Growing.{at_zero}
 use Rattle.cuts.specs.declared.edge.Edge.{Edge}
 use Rattle.sweeper.specs.Tables.{Image, Sound, state_of, node_in, no_source, no_edge}
-use Rattle.sweeper.proofs.Newest.{newest-length, newest-at, newest-push}
+use Rattle.std.specs.Result.{MatchResult}
+use Rattle.sweeper.specs.Answers.{mapped_by, told_edge}
+use Rattle.sweeper.specs.Reports.{entry}
+use Rattle.sweeper.specs.declared.refusal.Refusal.{Refusal}
+use Rattle.sweeper.specs.declared.refusal.Refusal.TheVariants.{NoNode}
+use Rattle.sweeper.proofs.Telling.{entry_some, entry_none}
+use Rattle.sweeper.proofs.Newest.{newest-length, newest-push}
 
 module _ (c : Image) where
   pub sources-are : length (state_of c).source ≡ c.sources
@@ -21,21 +27,36 @@ module _ (c : Image) where
   pub is_unknown : (e : ℕ) → c.sources < node_of e → knows (state_of c).source e ≡ false
   is_unknown e h = lt-leb _ _ (omega (arith, sources-are))
 
-  pub map-constant : (e : ℕ) → node_of e ≡ 0 → signed 0 (sign_of e) ≡ map_edge (state_of c) e
-  map-constant e h = ap (λ m. signed m (sign_of e)) (sym (ap (at 0 (state_of c).mapped) h ∙ at_zero 0 (state_of c).mapped))
+  mapped-are : length (state_of c).mapped ≡ c.sources
+  mapped-are = newest-length (λ r. r.mapped.number) no_source c.source c.sources
 
-  pub map_row : (e : ℕ) → 0 < node_of e → node_of e ≤ c.sources → signed (get_or c.source (node_of e - 1) no_source).mapped.number (sign_of e) ≡ map_edge (state_of c) e
-  map_row e h k =
-      let z : node_of e ≡ suc (node_of e - 1) = omega arith in
-      ap (λ m. signed m (sign_of e)) (sym (ap (at 0 (state_of c).mapped) z ∙ newest-at (λ r. r.mapped.number) no_source 0 c.source c.sources (node_of e - 1) (omega arith)))
+  mapped_at : (e r : Edge) (which m : ℕ) → node_of e.number ≤ c.sources → m ≡ at 0 (state_of c).mapped (node_of e.number) → r.number ≡ signed m (sign_of e.number) → Ok r ≡ mapped_by (state_of c) e which
+  mapped_at e r which m h is signs = rw (is_known e.number h) (ap (λ n. Ok (record { number = n })) (signs ∙ ap (λ k. signed k (sign_of e.number)) is))
 
-  pub map_steps : (e m : ℕ) → node_of e ≤ c.sources → m ≡ map_edge (state_of c) e → Steps positions (state_of c) (map_call e) (state_of c) (model.mapped_edge m)
+  -- the edge of the constant, of a row, and of no node
+  pub mapped-constant : (e r : Edge) (which : ℕ) → node_of e.number ≡ 0 → r.number ≡ signed 0 (sign_of e.number) → Ok r ≡ mapped_by (state_of c) e which
+  mapped-constant e r which h = mapped_at e r which 0 (omega arith) (sym (ap (at 0 (state_of c).mapped) h ∙ at_zero 0 (state_of c).mapped))
+
+  pub mapped-row : (e p r : Edge) (which : ℕ) → Some p.number ≡ entry 0 (state_of c).mapped (node_of e.number) → r.number ≡ signed p.number (sign_of e.number) → Ok r ≡ mapped_by (state_of c) e which
+  mapped-row e p r which is = let t = entry_some 0 (state_of c).mapped (node_of e.number) p.number is in mapped_at e r which p.number (omega (arith, t.0, mapped-are)) t.1
+
+  pub mapped-none : (e : Edge) (which : ℕ) → (node_of e.number ≡ 0 → ⊥) → None ≡ entry 0 (state_of c).mapped (node_of e.number) → Err (NoNode which) ≡ mapped_by (state_of c) e which
+  mapped-none e which some is = rw (is_unknown e.number (omega (arith, entry_none 0 (state_of c).mapped (node_of e.number) some is, mapped-are))) refl
+
+  -- a refusal, or a known edge and where it maps to
+  pub mapped_parts : (e : Edge) (which : ℕ) (x : Result Edge Refusal) → x ≡ mapped_by (state_of c) e which
+      → MatchResult x (λ m. (node_of e.number ≤ c.sources) × (m.number ≡ map_edge (state_of c) e.number)) (λ r. (c.sources < node_of e.number) × (r ≡ NoNode which))
+  mapped_parts e which x is = ⊎_elim
+      (λ (h : c.sources < node_of e.number). rw (is, is_unknown e.number h) (h, refl))
+      (λ (h : node_of e.number ≤ c.sources). rw (is, is_known e.number h) (h, refl)) (cases_lt c.sources (node_of e.number))
+
+  pub map_steps : (e : Edge) (x : Result Edge Refusal) → x ≡ mapped_by (state_of c) e 0 → Steps positions (state_of c) (map_call e.number) (state_of c) (told_edge x)
   unfolding step
-  map_steps e m h is = record { state = refl; answer = ap model.mapped_edge is ∙ sym (ap (λ b. cond b (model.mapped_edge (map_edge (state_of c) e)) (model.refused (model.no_node 0))) (is_known e h)) }
-
-  pub map-refused : (e : ℕ) → c.sources < node_of e → Steps positions (state_of c) (map_call e) (state_of c) (model.refused (model.no_node 0))
-  unfolding step
-  map-refused e h = record { state = refl; answer = sym (ap (λ b. cond b (model.mapped_edge (map_edge (state_of c) e)) (model.refused (model.no_node 0))) (is_unknown e h)) }
+  map_steps e x is = record { state = refl; answer = ap told_edge is ∙ go (knows (state_of c).source e.number) }
+    where
+      go : (b : Bool) → told_edge (cond b (Ok (record { number = map_edge (state_of c) e.number })) (Err (NoNode 0))) ≡ cond b (model.mapped_edge (map_edge (state_of c) e.number)) (model.refused (model.no_node 0))
+      go true = refl
+      go false = refl
 
 -- the tables after an output
 abbrev pub after_output : Image → Edge → Image

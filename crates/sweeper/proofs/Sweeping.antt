@@ -1,14 +1,16 @@
 -- What a gate call may rely on in a session that calls led to.
-use Rattle.std.proofs.Common.{◌≡◌, ℕ, ◌+◌, ◌≤◌, min, max, Bool, true, false, cond, not, ◌||◌, eqb, List, [], ◌∷◌, map, length, Some, None, sym, refl, ap, ◌∙◌, subst, ap₂, arith}
+use Rattle.std.proofs.Common.{◌≡◌, ℕ, ◌+◌, ◌<◌, ◌≤◌, min, max, Bool, true, false, cond, not, ◌||◌, eqb, List, [], ◌∷◌, map, length, Some, None, Option, sym, refl, ap, ◌∙◌, subst, ap₂, arith}
 use mathlib.Core.Logic.{∥∥₁_elim}
 use native.Mathlib.Bridge.{le_prop}
 use Rattle.std.proofs.lemmas.Bool.{eq-eqb, both_ways}
 use Rattle.model.specs.Cuts.{Cut as Meant, joined, key_list}
 use Rattle.model.specs.Edges.{node_of, sign_of, edge, signed}
 use Rattle.model.specs.Graphs.{input, gate, Graph, find_pair, find_key, cuts_of}
-use Rattle.model.specs.Rankings.{Before, Every, first_by}
-use Rattle.model.specs.Search.{folded, made, Search, ended, candidates, fold_pair, chosen, by_leaves, leaf_in, search_in, decide}
-use Rattle.model.specs.Sessions.{positions, lean, map_edge}
+use Rattle.model.specs.Rankings.{Before, Ranking, Every, first_by}
+use Rattle.model.specs.Search.{Decision, folded, made, Search, ended, candidates, fold_pair, chosen, by_leaves, leaf_in, search_in, decide}
+use Rattle.model.specs.Sessions.{positions, lean, Answer, gate_call, map_edge, with_gate, outcome_of, edge_of}
+use Rattle.model.specs.Sessions as model
+use Rattle.model.specs.Runs.{Steps}
 use Rattle.model.specs.RunLaws.{gates}
 use Rattle.model.proofs.Candidates.{every_candidate, search_makes_none}
 use Rattle.model.proofs.Consistent.{run_consistent, decided-within}
@@ -19,17 +21,22 @@ use Rattle.model.proofs.Naming.{DecidedWithin}
 use Rattle.model.proofs.Signs.{edge-parts, signed-edge, node-edge}
 use Rattle.cuts.specs.declared.cut.Cut.{Cut}
 use Rattle.cuts.specs.declared.edge.Edge.{Edge}
+use Rattle.lookup.specs.Hash.{hashed_slot}
+use Rattle.lookup.specs.Pairs.{pair_meaning}
+use Rattle.lookup.specs.Slots.{found}
 use Rattle.search.specs.Finding.{existing}
 use Rattle.search.specs.declared.decision.Existing.{Existing}
 use Rattle.search.specs.declared.decision.Existing.TheVariants as existings
-use Rattle.sweeper.specs.Answers.{NodeFits}
+use Rattle.sweeper.specs.Answers.{NodeFits, swept_in}
+use Rattle.sweeper.specs.declared.accepting.Swept.{Swept}
 use Rattle.cuts.specs.Meaning.{meaning}
 use Rattle.sweeper.specs.declared.tally.Outcome.{Outcome}
 use Rattle.sweeper.specs.declared.tally.Outcome.TheVariants.{Made, Folded, Shared, Merged}
-use Rattle.sweeper.specs.Tallies.{count_of}
+use Rattle.sweeper.specs.Tallies.{count_of, outcome_in}
 use Rattle.sweeper.specs.Runs.{Reached}
-use Rattle.sweeper.specs.Tables.{Image, Sound, state_of, graph_of, kept_of, node_in, no_reduced, by_cuts, after_edge, Growable}
+use Rattle.sweeper.specs.Tables.{Image, Sound, state_of, graph_of, kept_of, node_in, no_reduced, by_cuts, after_edge, Growable, Rest}
 use Rattle.sweeper.proofs.Newest.{newest-length}
+use Rattle.sweeper.proofs.Gated.{edge-sound, edge-state, edge-rest, gate-done}
 use Rattle.sweeper.proofs.Mapping.{sources-are}
 use Rattle.sweeper.proofs.Reaching.{map_known, unused}
 
@@ -146,3 +153,34 @@ module _ (before : Before) (c : Image) (s : Sound c) (reached : Reached (state_o
         new_keys = every_meant (λ k. find_key positions (kept_of c) (key_list positions k) ≡ None) kept (new_keys before c x y (map meaning kept) (sym is));
         unused = λ n h. unused (state_of c) reached n (omega (arith, count c reached));
       }
+
+-- what the pair slots have is what the graph has
+pub looked_up : (c : Image) → Sound c → (x y p q : ℕ) (w : Option ℕ) → p ≡ x → q ≡ y → w ≡ found pair_meaning hashed_slot c.pairs (p ∷ (q ∷ [])) → find_pair x y (graph_of c) ≡ w
+looked_up c s x y p q w ep eq is = ap₂ (λ a b. find_pair a b (graph_of c)) (sym ep) (sym eq) ∙ sym (s.pairs _) ∙ sym is
+
+-- what a gate call that is not refused leaves
+pub record Done (r : Ranking positions) (c : Image) (a b : ℕ) (d : Image) (w : Answer) : Type 0 where
+  pub sound : Sound d
+  pub rest : Rest c d
+  pub steps : Steps positions (state_of c) (gate_call r a b) (state_of d) w
+
+module _ (r : Ranking positions) (c : Image) (s : Sound c) (a b : Edge) (first : node_of a.number ≤ c.sources) (second : node_of b.number ≤ c.sources) (room : c.sources < c.capacity) (x y : ℕ)
+    (low : x ≡ min (map_edge (state_of c) a.number) (map_edge (state_of c) b.number)) (high : y ≡ max (map_edge (state_of c) a.number) (map_edge (state_of c) b.number))
+    (d : Decision) (is : decide positions lean r.before (graph_of c) (kept_of c) x y ≡ d) where
+  -- by an edge that is there already
+  pub edge_done : (o : Outcome) (m : Edge) → outcome_of d ≡ outcome_in o → edge_of (graph_of c) d ≡ m.number → model.reduced_after (graph_of c) x y d ≡ graph_of c → model.kept_after (kept_of c) d ≡ kept_of c
+      → (n : Image) → n ≡ after_edge c a b o m → (w : Swept) → w ≡ record { outcome = o; edge = m } → Done r c a.number b.number n (swept_in w)
+  edge_done o m ho he hg hk n after w answer = record {
+    sound = subst Sound (sym after) (edge-sound c s a b o m room);
+    rest = subst (Rest c) (sym after) (edge-rest c s a b room o m);
+    steps = subst (λ v. Steps positions (state_of c) (gate_call r a.number b.number) (state_of n) v) (sym (ap swept_in answer ∙ sym (ap₂ model.swept ho he)))
+        (gate-done c r a.number b.number first second room x y low high d is (state_of n) (ap state_of after ∙ edge-state c s a b room o m x y d ho he hg hk));
+  }
+
+  -- by what the cuts decide
+  pub cuts_done : (n : Image) → Sound n → Rest c n → state_of n ≡ (with_gate (state_of c) a.number b.number x y d).state → (w : Answer) → w ≡ model.swept (outcome_of d) (edge_of (graph_of c) d) → Done r c a.number b.number n w
+  cuts_done n sound rest state w answer = record {
+    sound = sound;
+    rest = rest;
+    steps = subst (λ v. Steps positions (state_of c) (gate_call r a.number b.number) (state_of n) v) (sym answer) (gate-done c r a.number b.number first second room x y low high d is (state_of n) state);
+  }

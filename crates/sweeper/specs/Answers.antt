@@ -1,10 +1,10 @@
 -- What the answers of a session's calls are in the model.
-use Rattle.std.specs.Prelude.{ℕ, ◌<◌, Bool, Some, None, Ok, Err, Option, Result}
+use Rattle.std.specs.Prelude.{ℕ, ◌<◌, Bool, cond, Some, None, Ok, Err, Option, Result}
 use Rattle.model.specs.Sessions.{Answer, node, mapped_edge, refused, no_node, at_capacity, no_output_row, wrong_signals, too_short, above_cap}
 use Rattle.model.specs.Sessions as model
 use Rattle.cuts.specs.declared.edge.Edge.{Edge}
 use Rattle.model.specs.Rankings.{Before, Lawful}
-use Rattle.model.specs.Sessions.{State, positions, gate_call, swept}
+use Rattle.model.specs.Sessions.{State, positions, gate_call, swept, knows, map_edge}
 use Rattle.model.specs.Runs.{Steps}
 use Rattle.model.specs.RunLaws.{Extends}
 use Rattle.search.specs.declared.decision.Existing.{Existing}
@@ -29,6 +29,10 @@ told_node (Err r) = refused (refusal_in r)
 abbrev pub told_edge : Result Edge Refusal → Answer
 told_edge (Ok e) = mapped_edge e.number
 told_edge (Err r) = refused (refusal_in r)
+
+-- the mapped edge of a known source edge, or the refusal of the first or second edge of a call
+abbrev pub mapped_by : State → Edge → ℕ → Result Edge Refusal
+mapped_by s e which = cond (knows s.source e.number) (Ok (record { number = map_edge s e.number })) (Err (NoNode which))
 
 abbrev pub swept_in : Swept → Answer
 swept_in w = swept (outcome_in w.outcome) w.edge.number

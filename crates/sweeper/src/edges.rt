@@ -1,56 +1,48 @@
 // Source edges: which are accepted, and where they map to.
-ghost use Rattle.std.specs.Prelude.{◌≡◌, ◌≤◌};
-ghost use Rattle.model.specs.Edges.{node_of};
-ghost use Rattle.model.specs.Sessions.{map_edge, map_call, output_call, positions};
-ghost use Rattle.model.specs.Runs.{Steps};
-ghost use Rattle.sweeper.specs.Tables.{Sound, image, state_of, Rest};
-ghost use Rattle.sweeper.specs.Answers.{told_edge, Refused};
+ghost use Rattle.std.specs.Prelude.{◌≡◌};
+ghost use Rattle.model.specs.RunLaws.{Extends};
+ghost use Rattle.model.specs.Sessions.{map_call, output_call, positions};
+ghost use Rattle.sweeper.specs.Tables.{image, state_of, Rest};
+ghost use Rattle.sweeper.specs.Answers.{told_edge, mapped_by, Refused};
 
-use crate::core_state::Core;
 use crate::refusal::Refusal;
+use crate::session::Session;
 use cuts::Edge;
 
-impl<'a> Core<'a> {
-    // The mapped edge of an accepted source edge.
-    pub(crate) fn map_edge(&self, e: Edge) -> Edge
-        requires sound { Sound (image self.now) }
-        requires known { node_of e.number ≤ self.now.sources }
-        ensures { result.number ≡ map_edge (state_of (image self.now)) e.number }
+impl<'a> Session<'a> {
+    // The reduced edge of an accepted source edge, which is the first or the second of a call.
+    pub(crate) fn mapped_edge(&self, e: Edge, which: usize) -> Result<Edge, Refusal>
+        ensures { result ≡ mapped_by (state_of (image self.now.core)) e which }
     {
         let node = e.node() as usize;
-        if node == 0 {
-            return Edge::new(0).complement_if(e.sign());
-        }
-        let row = self.source[node - 1];
-        row.mapped.complement_if(e.sign())
+        let plain = if node == 0 {
+            Edge::FALSE
+        } else {
+            self.mapped(node).ok_or(Refusal::NoNode(which))?
+        };
+        Ok(plain.complement_if(e.sign()))
     }
 
-    pub(crate) fn map(&self, e: Edge) -> Result<Edge, Refusal>
-        requires sound { Sound (image self.now) }
-        ensures { Steps positions (state_of (image self.now)) (map_call e.number) (state_of (image self.now)) (told_edge result) }
+    // The reduced edge of an accepted source edge.
+    pub fn map(&self, e: Edge) -> Result<Edge, Refusal>
+        ensures { Extends positions (state_of (image self.now.core)) (map_call e.number) (state_of (image self.now.core)) (told_edge result) }
     {
-        if e.node() as usize > self.sources {
-            return Err(Refusal::NoNode(0));
-        }
-        Ok(self.map_edge(e))
+        self.mapped_edge(e, 0)
     }
 
-    pub(crate) fn output(&mut self, e: Edge) -> Result<Edge, Refusal>
-        requires sound { Sound (image self.old) }
-        ensures kept { Sound (image self.new) }
-        ensures rest { Rest (image self.old) (image self.new) }
-        ensures refused { Refused result (image self.new ≡ image self.old) }
-        ensures steps { Steps positions (state_of (image self.old)) (output_call e.number) (state_of (image self.new)) (told_edge result) }
+    // Makes an accepted source edge an output and answers its reduced edge.
+    pub fn output(&mut self, e: Edge) -> Result<Edge, Refusal>
+        ensures runs { Extends positions (state_of (image self.old.core)) (output_call e.number) (state_of (image self.new.core)) (told_edge result) }
+        ensures rest { Rest (image self.old.core) (image self.new.core) }
+        ensures refused { Refused result (image self.new.core ≡ image self.old.core) }
     {
-        if e.node() as usize > self.sources {
-            return Err(Refusal::NoNode(0));
+        let mapped = self.mapped_edge(e, 0)?;
+        let core = &mut self.core;
+        if core.outs >= core.outputs.len() {
+            return Err(Refusal::NoOutputRow(core.outs));
         }
-        if self.outs >= self.outputs.len() {
-            return Err(Refusal::NoOutputRow(self.outs));
-        }
-        let mapped = self.map_edge(e);
-        self.outputs[self.outs] = mapped;
-        self.outs += 1;
+        core.outputs[core.outs] = mapped;
+        core.outs += 1;
         Ok(mapped)
     }
 }

@@ -9,13 +9,13 @@ use cuts::Edge;
 pub(crate) fn fold(x: Edge, y: Edge) -> Option<Edge>
     ensures { numbered result ≡ fold_pair x.number y.number }
 {
-    if x.number() == 0 || x.complement().number() == y.number() {
-        return Some(Edge::new(0));
+    if x == Edge::FALSE || x.complement() == y {
+        return Some(Edge::FALSE);
     }
-    if x.number() == 1 {
+    if x == Edge::TRUE {
         return Some(y);
     }
-    if x.number() == y.number() {
+    if x == y {
         return Some(x);
     }
     None

@@ -9,14 +9,14 @@ ghost use Rattle.sweeper.specs.declared.tally.Outcome.TheVariants as outcomes;
 ghost use Rattle.cuts.specs.declared.edge.Edge.{Edge as EdgeOf};
 ghost use Rattle.sweeper.specs.Tallies.{count_of};
 ghost use Rattle.sweeper.specs.Tables.{Sound, image, state_of, graph_of, after_edge, Growable, Rest};
-ghost use Rattle.sweeper.specs.Answers.{told_swept, swept_in, Gates, NodeFits, Refused};
-ghost use Rattle.sweeper.specs.Runs.{Reached};
+ghost use Rattle.sweeper.specs.Answers.{told_swept, swept_in, Gates, GateExtends, NodeFits, Refused};
 
 use crate::accepting::Swept;
 use crate::core_state::Core;
 use crate::folding::fold;
 use crate::ordering::in_order;
 use crate::refusal::Refusal;
+use crate::session::Session;
 use crate::tally::Outcome;
 use cuts::{Cut, Edge};
 use lookup::FaninPair;
@@ -60,57 +60,48 @@ impl<'a> Core<'a> {
             Existing::Merged(edge) => self.accept(a, b, Outcome::Merged, edge),
         }
     }
+}
 
+impl<'a> Session<'a> {
     // The mapped fanins, the smaller first, folded, looked up as a pair, and then by their cuts.
     fn sweep<R: Ranking>(&mut self, by: &R, a: Edge, b: Edge, x: Edge, y: Edge) -> Swept
-        requires sound { Sound (image self.old) }
-        requires reached { Reached (state_of (image self.old)) }
-        requires first { node_of a.number ≤ self.old.sources }
-        requires second { node_of b.number ≤ self.old.sources }
-        requires room { self.old.sources < self.old.capacity }
-        requires low { x.number ≡ min (map_edge (state_of (image self.old)) a.number) (map_edge (state_of (image self.old)) b.number) }
-        requires high { y.number ≡ max (map_edge (state_of (image self.old)) a.number) (map_edge (state_of (image self.old)) b.number) }
-        ensures kept { Sound (image self.new) }
-        ensures gates { Gates (R.Ranking.before by.now) R.Ranking.mark (state_of (image self.old)) a.number b.number (state_of (image self.new)) (swept_in result) }
-        ensures rest { Rest (image self.old) (image self.new) }
+        requires first { node_of a.number ≤ self.old.core.sources }
+        requires second { node_of b.number ≤ self.old.core.sources }
+        requires room { self.old.core.sources < self.old.core.capacity }
+        requires low { x.number ≡ min (map_edge (state_of (image self.old.core)) a.number) (map_edge (state_of (image self.old.core)) b.number) }
+        requires high { y.number ≡ max (map_edge (state_of (image self.old.core)) a.number) (map_edge (state_of (image self.old.core)) b.number) }
+        ensures gates { Gates (R.Ranking.before by.now) R.Ranking.mark (state_of (image self.old.core)) a.number b.number (state_of (image self.new.core)) (swept_in result) }
+        ensures rest { Rest (image self.old.core) (image self.new.core) }
     {
-        match fold(x, y) {
-            Some(edge) => return self.accept(a, b, Outcome::Folded, edge),
-            None => {}
+        if let Some(edge) = fold(x, y) {
+            return self.core.accept(a, b, Outcome::Folded, edge);
         }
         let pair = FaninPair {
             first: x.number(),
             second: y.number(),
         };
-        match self.pairs.find(&pair) {
-            Some(edge) => return self.accept(a, b, Outcome::Shared, Edge::new(edge)),
-            None => {}
+        if let Some(edge) = self.core.pairs.find(&pair) {
+            return self.core.accept(a, b, Outcome::Shared, Edge::new(edge));
         }
         let mut kept = [Cut::trivial(0); KEPT];
         match self.decide(by, x, y, &mut kept) {
-            Decision::Existing(found) => self.reuse(a, b, found),
-            Decision::Made(n) => self.make(a, b, x, y, &kept[..n]),
+            Decision::Existing(found) => self.core.reuse(a, b, found),
+            Decision::Made(n) => self.core.make(a, b, x, y, &kept[..n]),
         }
     }
 
-    pub(crate) fn gate<R: Ranking>(&mut self, by: &R, a: Edge, b: Edge) -> Result<Swept, Refusal>
-        requires sound { Sound (image self.old) }
-        requires reached { Reached (state_of (image self.old)) }
-        ensures kept { Sound (image self.new) }
-        ensures gates { Gates (R.Ranking.before by.now) R.Ranking.mark (state_of (image self.old)) a.number b.number (state_of (image self.new)) (told_swept result) }
-        ensures rest { Rest (image self.old) (image self.new) }
-        ensures refused { Refused result (image self.new ≡ image self.old) }
+    // Sweeps a gate by a ranking of this call's own.
+    pub fn gate<R: Ranking>(&mut self, by: &R, a: Edge, b: Edge) -> Result<Swept, Refusal>
+        ensures runs { GateExtends (R.Ranking.before by.now) R.Ranking.mark (state_of (image self.old.core)) a.number b.number (state_of (image self.new.core)) (told_swept result) }
+        ensures rest { Rest (image self.old.core) (image self.new.core) }
+        ensures refused { Refused result (image self.new.core ≡ image self.old.core) }
     {
-        if a.node() as usize > self.sources {
-            return Err(Refusal::NoNode(0));
+        let p = self.mapped_edge(a, 0)?;
+        let q = self.mapped_edge(b, 1)?;
+        if self.core.sources >= self.core.capacity {
+            return Err(Refusal::AtCapacity(self.core.capacity));
         }
-        if b.node() as usize > self.sources {
-            return Err(Refusal::NoNode(1));
-        }
-        if self.sources >= self.capacity {
-            return Err(Refusal::AtCapacity(self.capacity));
-        }
-        let (x, y) = in_order(self.map_edge(a), self.map_edge(b));
+        let (x, y) = in_order(p, q);
         Ok(self.sweep(by, a, b, x, y))
     }
 }

@@ -11,10 +11,7 @@ use crate::core_state::Core;
 use cuts::{Cut, Edge};
 use lookup::FaninPair;
 use rankings::LeafFacts;
-use search::{Node, ReducedRow};
-
-// How many cuts a gate keeps at most.
-const KEPT: usize = 4;
+use search::{KEPT, Node, ReducedRow};
 
 impl<'a> Core<'a> {
     // The kept cuts go to the cut rows of the next node.
@@ -25,8 +22,7 @@ impl<'a> Core<'a> {
         ensures { image self.new ≡ with_cuts (image self.old) (stored (4 * self.old.nodes) kept.now (image self.old).cuts) }
     {
         let first = KEPT * self.nodes;
-        let end = first + kept.len();
-        self.cuts[first..end].copy_from_slice(kept);
+        self.cuts[first..first + kept.len()].copy_from_slice(kept);
     }
 
     // Each kept key is entered with the edge, complemented for the key's sign.
@@ -47,16 +43,7 @@ impl<'a> Core<'a> {
         requires few { (slice_index_or (image self.old).reduced (node - 1) no_reduced).facts.uses < 65535 }
         ensures { image self.new ≡ with_reduced (image self.old) (used_at (node - 1) (image self.old).reduced) }
     {
-        let row = self.reduced[node - 1];
-        let facts = LeafFacts {
-            height: row.facts.height,
-            uses: row.facts.uses + 1,
-        };
-        self.reduced[node - 1] = ReducedRow {
-            node: row.node,
-            facts,
-            kept: row.kept,
-        };
+        self.reduced[node - 1].facts.uses += 1;
     }
 
     // The height of a node of the reduced graph.
@@ -65,8 +52,7 @@ impl<'a> Core<'a> {
         requires known { node ≤ length (image self.now).reduced }
         ensures { result ≡ (slice_index_or (image self.now).reduced (node - 1) no_reduced).facts.height }
     {
-        let row = self.reduced[node - 1];
-        row.facts.height
+        self.reduced[node - 1].facts.height
     }
 
     // The next node: a gate with these fanins that keeps these cuts. Its plain edge is answered.

@@ -1,9 +1,11 @@
 // Opening on tables of any length.
-ghost use Rattle.std.specs.Prelude.{◌≡◌, take};
-ghost use Rattle.model.specs.Sessions.{opened, output_limit};
-ghost use Rattle.sweeper.specs.Tables.{Sound, image, state_of, lengths_of};
+ghost use Rattle.std.specs.Prelude.{◌≡◌, [], take};
+ghost use Rattle.model.specs.Runs.{Run};
+ghost use Rattle.model.specs.Sessions.{positions, lean, output_limit};
+ghost use Rattle.sweeper.specs.Tables.{image, state_of, lengths_of};
 
 use crate::core_state::Core;
+use crate::session::Session;
 use crate::tables::Tables;
 use crate::tally::Tally;
 use lookup::SlotTable;
@@ -13,16 +15,16 @@ use search::KEPT;
 const NODES: usize = 16383;
 
 // The most output rows that count.
-const OUTPUTS: usize = 16384;
+const OUTPUTS: usize = NODES + 1;
 
-impl<'a> Core<'a> {
-    pub(crate) fn open(tables: Tables<'a>) -> Core<'a>
-        ensures sound { Sound (image result) }
-        ensures source { result.source.now ≡ tables.entry.source.now }
-        ensures reduced { result.reduced.now ≡ tables.entry.reduced.now }
-        ensures cuts { result.cuts.now ≡ tables.entry.cuts.now }
-        ensures outputs { result.outputs.now ≡ take output_limit tables.entry.outputs.now }
-        ensures state { state_of (image result) ≡ opened (lengths_of tables.entry) }
+impl<'a> Session<'a> {
+    // Opens a session on tables of any length, whatever they hold.
+    pub fn open(tables: Tables<'a>) -> Session<'a>
+        ensures source { result.core.source.now ≡ tables.entry.source.now }
+        ensures reduced { result.core.reduced.now ≡ tables.entry.reduced.now }
+        ensures cuts { result.core.cuts.now ≡ tables.entry.cuts.now }
+        ensures outputs { result.core.outputs.now ≡ take output_limit tables.entry.outputs.now }
+        ensures run { Run positions lean (lengths_of tables.entry) [] (state_of (image result.core)) }
     {
         let Tables {
             source,
@@ -37,18 +39,20 @@ impl<'a> Core<'a> {
             .len()
             .min(reduced.len().min(pairs.len().min(by_cuts)));
         let rows = OUTPUTS.min(outputs.len());
-        Core {
-            source,
-            reduced,
-            cuts,
-            pairs: SlotTable::open(pairs),
-            keys: SlotTable::open(keys),
-            outputs: &mut outputs[..rows],
-            capacity: NODES.min(by_rows),
-            sources: 0,
-            nodes: 0,
-            outs: 0,
-            tally: Tally::new(),
+        Session {
+            core: Core {
+                source,
+                reduced,
+                cuts,
+                pairs: SlotTable::open(pairs),
+                keys: SlotTable::open(keys),
+                outputs: &mut outputs[..rows],
+                capacity: NODES.min(by_rows),
+                sources: 0,
+                nodes: 0,
+                outs: 0,
+                tally: Tally::new(),
+            },
         }
     }
 }

@@ -7,9 +7,5 @@ pub(crate) fn in_order(p: Edge, q: Edge) -> (Edge, Edge)
     ensures low { result.0.number ≡ min p.number q.number }
     ensures high { result.1.number ≡ max p.number q.number }
 {
-    if p.number() <= q.number() {
-        (p, q)
-    } else {
-        (q, p)
-    }
+    (p.min(q), p.max(q))
 }

@@ -3,58 +3,21 @@ ghost use Rattle.std.specs.Prelude.{◌≡◌, [], map, length};
 ghost use Rattle.model.specs.Graphs.{at};
 ghost use Rattle.cuts.specs.Meaning.{meaning};
 ghost use Rattle.model.specs.Graphs.{input as an_input};
-ghost use Rattle.sweeper.specs.Tables.{Sound, image, state_of, no_source, no_edge};
+ghost use Rattle.sweeper.specs.Tables.{image, state_of};
 ghost use Rattle.sweeper.specs.Answers.{numbered};
 ghost use Rattle.sweeper.specs.Tallies.{tallied};
-ghost use Rattle.sweeper.specs.Reports.{described, described_in, entry, row_at, node_told};
+ghost use Rattle.sweeper.specs.Reports.{described, described_in, entry, node_told};
 
-use crate::core_state::Core;
-use crate::rows::SourceRow;
 use crate::session::Session;
 use crate::tally::Tally;
 use cuts::{Cut, Edge};
-use search::{Node, ReducedRow};
+use search::{KEPT, Node, ReducedRow};
 
-impl<'a> Core<'a> {
-    fn row(&self, node: usize) -> Option<ReducedRow>
-        requires sound { Sound (image self.now) }
-        ensures { described result ≡ described_in (state_of (image self.now)) node }
-    {
-        if node == 0 || node > self.nodes {
-            return None;
-        }
-        Some(self.reduced[node - 1])
-    }
-
-    fn source_row(&self, node: usize) -> Option<SourceRow>
-        requires sound { Sound (image self.now) }
-        ensures { result ≡ row_at no_source (image self.now).source self.now.sources node }
-    {
-        if node == 0 || node > self.sources {
-            return None;
-        }
-        Some(self.source[node - 1])
-    }
-
-    fn output_row(&self, rank: usize) -> Option<Edge>
-        requires sound { Sound (image self.now) }
-        ensures { result ≡ row_at no_edge (image self.now).outputs self.now.outs rank }
-    {
-        if rank == 0 || rank > self.outs {
-            return None;
-        }
-        Some(self.outputs[rank - 1])
-    }
-
-    fn cuts_of(&self, node: usize) -> &[Cut]
-        requires sound { Sound (image self.now) }
-        ensures { map meaning result.now ≡ at [] (state_of (image self.now)).kept node }
-    {
-        if node == 0 || node > self.nodes {
-            return &self.cuts[..0];
-        }
-        self.kept_of(node)
-    }
+// The row of a number, counted from 1, if there is one.
+fn row_at<T: Copy>(rows: &[T], number: usize) -> Option<T>
+    ensures { (d : T) → result ≡ Rattle.sweeper.specs.Reports.row_at d rows.now (length rows.now) number }
+{
+    rows.get(number.checked_sub(1)?).copied()
 }
 
 impl<'a> Session<'a> {
@@ -93,40 +56,38 @@ impl<'a> Session<'a> {
     pub fn node(&self, node: usize) -> Option<ReducedRow>
         ensures { described result ≡ described_in (state_of (image self.now.core)) node }
     {
-        self.core.row(node)
+        row_at(&self.core.reduced[..self.core.nodes], node)
     }
 
     // The cuts that a reduced node keeps, in kept order; none for what is no node.
     pub fn kept_cuts(&self, node: usize) -> &[Cut]
         ensures { map meaning result.now ≡ at [] (state_of (image self.now.core)).kept node }
     {
-        self.core.cuts_of(node)
+        let Some(row) = self.node(node) else {
+            return &[];
+        };
+        let first = KEPT * (node - 1);
+        &self.core.cuts[first..first + row.kept]
     }
 
     // A source node, unless it is the constant or past the last.
     pub fn source_node(&self, node: usize) -> Option<Node>
         ensures { node_told result ≡ entry an_input (state_of (image self.now.core)).source node }
     {
-        match self.core.source_row(node) {
-            Some(row) => Some(row.node),
-            None => None,
-        }
+        row_at(&self.core.source[..self.core.sources], node).map(|row| row.node)
     }
 
     // The reduced edge of a source node, unless it is the constant or past the last.
     pub fn mapped(&self, node: usize) -> Option<Edge>
         ensures { numbered result ≡ entry 0 (state_of (image self.now.core)).mapped node }
     {
-        match self.core.source_row(node) {
-            Some(row) => Some(row.mapped),
-            None => None,
-        }
+        row_at(&self.core.source[..self.core.sources], node).map(|row| row.mapped)
     }
 
     // The mapped edge of an output, counted from 1.
     pub fn output_edge(&self, rank: usize) -> Option<Edge>
         ensures { numbered result ≡ entry 0 (state_of (image self.now.core)).outputs rank }
     {
-        self.core.output_row(rank)
+        row_at(&self.core.outputs[..self.core.outs], rank)
     }
 }

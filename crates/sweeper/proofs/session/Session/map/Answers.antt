@@ -1,8 +1,7 @@
 use Rattle.model.proofs.Sound.{extends}
+use Rattle.sweeper.specs.Tables.{image}
+use Rattle.sweeper.proofs.Mapping.{map_steps}
 use Rattle.sweeper.proofs.session.Session.map.Goals as goal
 
-pub map-requires : goal.map-requires
-map-requires c = record { sound = c.args.self.now.sound }
-
 pub returns : goal.returns
-returns c = extends c.map.ensures
+returns c = extends (map_steps (image c.args.self.now.core) c.args.e _ c.mapped_edge.ensures)

@@ -1,9 +1,9 @@
-use Rattle.sweeper.specs.Tables.{no_edge}
-use Rattle.sweeper.proofs.Telling.{row_told}
+use Rattle.std.proofs.Common.{◌∙◌}
+use Rattle.sweeper.specs.Tables.{image, no_edge}
+use Rattle.sweeper.proofs.Telling.{row_told, row_at-take}
 use Rattle.sweeper.proofs.session.Session.output_edge.Goals as goal
 
-pub output_row-requires : goal.output_row-requires
-output_row-requires c = record { sound = c.args.self.now.sound }
-
 pub returns : goal.returns
-returns c = row_told (λ e. e.number) no_edge 0 c.args.self.now.core.outputs.now c.args.self.now.core.outs c.args.rank _ c.output_row.ensures
+returns c =
+    let i = image c.args.self.now.core in
+    row_told (λ e. e.number) no_edge 0 i.outputs i.outs c.args.rank _ (c.row_at.ensures no_edge ∙ row_at-take no_edge i.outputs i.outs c.args.rank c.args.self.now.sound.output_rows)
