@@ -2,10 +2,10 @@
 use Rattle.std.proofs.Common.{◌≡◌, ℕ, ◌+◌, Bool, true, false, cond, List, [], ◌∷◌, ◌++◌, length, Some, None, Ok, Err, Option, Result, sym, refl, ap, ◌∙◌, subst, inl, inr, arith}
 use Rattle.std.specs.List.{flat_map, AllByRecursion}
 use Rattle.std.proofs.lemmas.List.{append_assoc, append-nil}
-use Rattle.netlist.specs.declared.lines.Line.{Line}
-use Rattle.netlist.specs.declared.lines.Line.TheVariants.{Net, Input, Gate, Out, End}
-use Rattle.netlist.specs.declared.faults.LineFault.{LineFault}
-use Rattle.netlist.specs.declared.faults.LineFault.TheVariants as fault
+use Rattle.lines.specs.declared.lines.Line.{Line}
+use Rattle.lines.specs.declared.lines.Line.TheVariants.{Net, Input, Gate, Out, End}
+use Rattle.lines.specs.declared.faults.LineFault.{LineFault}
+use Rattle.lines.specs.declared.faults.LineFault.TheVariants as fault
 use Rattle.netlist.specs.declared.faults.ReadFault.{ReadFault}
 use Rattle.netlist.specs.declared.faults.ReadFault.TheVariants as read
 use Rattle.netlist.specs.declared.faults.TextFault.{TextFault}
@@ -13,13 +13,14 @@ use Rattle.netlist.specs.declared.reader.Place.{Place}
 use Rattle.netlist.specs.declared.reader.Place.TheVariants.{Start, Nodes, Outs, Ended}
 use Rattle.netlist.specs.declared.reader.Reader.{Reader}
 use Rattle.netlist.specs.declared.reader.Outline.{Outline}
-use Rattle.netlist.specs.Net.{line_text, written, Fit, Short, net_lines, outline_of, Follows, Next, NoShape, NoEnd, OutOfPlace, WrongNumber, Breaks, Refused}
+use Rattle.lines.specs.Written.{line_text, written, Fit, Short}
+use Rattle.netlist.specs.Net.{net_lines, outline_of, Follows, Next, NoShape, NoEnd, OutOfPlace, WrongNumber, Breaks, Refused}
 use Rattle.netlist.specs.Reading.{nodes_of, leads_to, numbers_due, moved, onwards, step_with, ended_at, at_line, go_on, begun, read_text}
-use Rattle.netlist.specs.Shape.{kind_of, read_line, cut_at}
-use Rattle.netlist.proofs.Cuts.{Lacks, Parts, cut_parts}
+use Rattle.lines.specs.Shape.{kind_of, read_line, cut_at}
+use Rattle.lines.proofs.Cuts.{Lacks, Parts, cut_parts}
 use Rattle.netlist.proofs.Onward.{read_rest, rest-step, rest-done}
 use Rattle.netlist.proofs.Order.{InOrder, due-parts, due-from, due_in_order, Passes, passes-front, passes-state, nodes_count, end_of, pass_net, begins-order, State, start, step-state, state-begins, ended-graph}
-use Rattle.netlist.proofs.Writing.{reads_line, line-written, line_lacks, line-fault}
+use Rattle.lines.proofs.Writing.{reads_line, line-written, line_lacks, line-fault}
 
 fit-short : (l : Line) → Fit l → Short l
 fit-short (Net n) h = omega arith

@@ -4,9 +4,9 @@ use Rattle.std.specs.List.{flat_map, AllByRecursion}
 use Rattle.std.proofs.ByRecursion.{All-push}
 use Rattle.std.proofs.lemmas.List.{append_assoc, append-nil, length_push, flat_map_more}
 use Rattle.std.proofs.lemmas.Bool.{eqb-true, eqb-false}
-use Rattle.netlist.specs.declared.lines.Line.{Line}
-use Rattle.netlist.specs.declared.faults.LineFault.{LineFault}
-use Rattle.netlist.specs.declared.faults.LineFault.TheVariants as fault
+use Rattle.lines.specs.declared.lines.Line.{Line}
+use Rattle.lines.specs.declared.faults.LineFault.{LineFault}
+use Rattle.lines.specs.declared.faults.LineFault.TheVariants as fault
 use Rattle.netlist.specs.declared.faults.ReadFault.{ReadFault}
 use Rattle.netlist.specs.declared.faults.ReadFault.TheVariants as read
 use Rattle.netlist.specs.declared.faults.TextFault.{TextFault}
@@ -14,12 +14,13 @@ use Rattle.netlist.specs.declared.reader.Place.{Place}
 use Rattle.netlist.specs.declared.reader.Place.TheVariants.{Start, Nodes, Outs, Ended}
 use Rattle.netlist.specs.declared.reader.Reader.{Reader}
 use Rattle.netlist.specs.declared.reader.Outline.{Outline}
-use Rattle.netlist.specs.Net.{line_text, written, Fit, outline_of, Follows, Next, Breaks, Refused, Told}
+use Rattle.lines.specs.Written.{line_text, written, Fit}
+use Rattle.netlist.specs.Net.{outline_of, Follows, Next, Breaks, Refused, Told}
 use Rattle.netlist.specs.Reading.{nodes_of, leads_to, numbers_due, moved, onwards, step_with, counted, ended_at, finished, at_line, Lines, longer, lines_of, go_on, read_lines, begun, read_text}
-use Rattle.netlist.specs.Shape.{kind_of, read_line, cut_at}
-use Rattle.netlist.proofs.Cuts.{Lacks, cut-found}
+use Rattle.lines.specs.Shape.{kind_of, read_line, cut_at}
+use Rattle.lines.proofs.Cuts.{Lacks, cut-found}
 use Rattle.netlist.proofs.Order.{InOrder, due-parts, due-from, due_in_order, Passes, passes-push, nodes_count, begins-order, whole_ends, State, start, step-state, state-begins, ended-graph}
-use Rattle.netlist.proofs.Writing.{reads_line, line-written, line_lacks, line-fault}
+use Rattle.lines.proofs.Writing.{reads_line, line-written, line_lacks, line-fault}
 
 abbrev ended10 : List ℕ → List ℕ
 ended10 l = l ++ 10 ∷ []

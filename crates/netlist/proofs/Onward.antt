@@ -1,16 +1,16 @@
 -- the steps of reading on
 use Rattle.std.proofs.Common.{◌≡◌, ℕ, ◌+◌, ◌≤◌, Bool, true, false, cond, List, [], ◌∷◌, ◌++◌, length, Some, None, Ok, Err, Option, Result, sym, refl, ap, ◌∙◌, subst, arith, length-append, ne_eqb}
-use Rattle.netlist.specs.declared.lines.Line.{Line}
-use Rattle.netlist.specs.declared.lines.Line.TheVariants.{Net, Input, Gate, Out, End}
+use Rattle.lines.specs.declared.lines.Line.{Line}
+use Rattle.lines.specs.declared.lines.Line.TheVariants.{Net, Input, Gate, Out, End}
 use Rattle.netlist.specs.declared.faults.ReadFault.{ReadFault}
 use Rattle.netlist.specs.declared.faults.TextFault.{TextFault}
-use Rattle.netlist.specs.declared.faults.LineFault.{LineFault}
+use Rattle.lines.specs.declared.faults.LineFault.{LineFault}
 use Rattle.netlist.specs.declared.reader.Place.{Place}
 use Rattle.netlist.specs.declared.reader.Reader.{Reader}
 use Rattle.netlist.specs.declared.reader.Outline.{Outline}
-use Rattle.netlist.specs.Shape.{cut_at, kind_of, read_line}
+use Rattle.lines.specs.Shape.{cut_at, kind_of, read_line}
 use Rattle.netlist.specs.Reading.{nodes_of, leads_to, numbers_due, moved, onwards, step_with, step_line, Becomes, Lines, lines_of, longer, go_on, read_lines, finished, at_line}
-use Rattle.netlist.proofs.Cuts.{Lacks, Parts, cut_parts}
+use Rattle.lines.proofs.Cuts.{Lacks, Parts, cut_parts}
 
 pub lines-first : (b a : List ℕ) → Lacks 10 b → lines_of (b ++ 10 ∷ a) ≡ record { ended = b ∷ (lines_of a).ended; rest = (lines_of a).rest }
 unfolding lines_of

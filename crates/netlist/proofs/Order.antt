@@ -2,14 +2,15 @@
 use Rattle.std.proofs.Common.{◌≡◌, ℕ, suc, ◌+◌, ◌<◌, true, eqb, leb, List, [], ◌∷◌, ◌++◌, map, length, Some, None, sym, refl, ap, ◌∙◌, subst, arith}
 use Rattle.std.proofs.lemmas.Bool.{and_parts, and_from, leb-true, le-leb, eqb-true, eq-eqb}
 use Rattle.std.proofs.lemmas.List.{append_assoc, append-nil, length_push, map_push}
-use Rattle.netlist.specs.declared.lines.Line.{Line}
-use Rattle.netlist.specs.declared.lines.Line.TheVariants.{Net, Input, Gate, Out, End}
+use Rattle.lines.specs.declared.lines.Line.{Line}
+use Rattle.lines.specs.declared.lines.Line.TheVariants.{Net, Input, Gate, Out, End}
 use Rattle.netlist.specs.declared.reader.Place.{Place}
 use Rattle.netlist.specs.declared.reader.Place.TheVariants.{Start, Nodes, Outs, Ended}
 use Rattle.netlist.specs.declared.reader.Reader.{Reader}
-use Rattle.netlist.specs.Net.{Fit, Node, input, gate, Graph, node_lines, net_lines, inputs_in, gates_in, Begins}
+use Rattle.lines.specs.Written.{Fit}
+use Rattle.netlist.specs.Net.{Node, input, gate, Graph, node_lines, net_lines, inputs_in, gates_in, Begins}
 use Rattle.netlist.specs.Reading.{nodes_of, leads_to, numbers_due, moved, begun}
-use Rattle.netlist.specs.Shape.{kind_of}
+use Rattle.lines.specs.Shape.{kind_of}
 
 abbrev pub at : Place → ℕ → ℕ → ℕ → Reader
 at p i g o = record { place = p; inputs = i; gates = g; outs = o }

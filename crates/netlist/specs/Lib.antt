@@ -1,4 +1,3 @@
 pub mod Net
 pub mod Reading
 pub mod Refusals
-pub mod Shape

@@ -1,43 +1,15 @@
 -- which texts are nets, and where another text goes wrong
-use Rattle.std.specs.Prelude.{◌≡◌, ℕ, ◌+◌, ◌<◌, ◌⊎◌, List, [], ◌∷◌, ◌++◌, map, length, decimal, Result, MatchResult, ◌≢◌}
+use Rattle.std.specs.Prelude.{◌≡◌, ℕ, ◌+◌, ◌⊎◌, List, [], ◌∷◌, ◌++◌, map, length, Result, MatchResult, ◌≢◌}
 use Rattle.std.specs.List.{flat_map, AllByRecursion}
-use Rattle.netlist.specs.declared.lines.Key.TheVariants as key
-use Rattle.netlist.specs.declared.lines.Line.{Line}
-use Rattle.netlist.specs.declared.lines.Line.TheVariants.{Net, Input, Gate, Out, End}
-use Rattle.netlist.specs.declared.faults.LineFault.TheVariants.{Shape, Place, Number}
+use Rattle.lines.specs.declared.lines.Line.{Line}
+use Rattle.lines.specs.declared.lines.Line.TheVariants.{Net, Input, Gate, Out, End}
+use Rattle.lines.specs.declared.faults.LineFault.TheVariants.{Shape, Place, Number}
 use Rattle.netlist.specs.declared.faults.ReadFault.{ReadFault}
 use Rattle.netlist.specs.declared.faults.ReadFault.TheVariants as read
 use Rattle.netlist.specs.declared.faults.TextFault.{TextFault}
 use Rattle.netlist.specs.declared.reader.Outline.{Outline}
-use Rattle.netlist.specs.Shape.{key_text, kind_of}
-
--- a line without its end: its key, and its numbers in decimal
-abbrev pub line_text : Line → List ℕ
-line_text (Net n) = key_text key.Net ++ decimal n
-line_text (Input n) = key_text key.Input ++ decimal n
-line_text (Gate a b) = key_text key.Gate ++ (decimal a ++ 44 ∷ decimal b)
-line_text (Out e) = key_text key.Out ++ decimal e
-line_text (End n) = key_text key.End ++ decimal n
-
--- a line with byte 10
-abbrev pub written : Line → List ℕ
-written l = line_text l ++ 10 ∷ []
-
--- the line's numbers are below a limit
-abbrev pub NumbersBelow : ℕ → Line → Type 0
-NumbersBelow limit (Net n) = n < limit
-NumbersBelow limit (Input n) = n < limit
-NumbersBelow limit (Gate a b) = (a < limit) × (b < limit)
-NumbersBelow limit (Out e) = e < limit
-NumbersBelow limit (End n) = n < limit
-
--- no number is above 32,767
-abbrev pub Fit : Line → Type 0
-Fit l = NumbersBelow 32768 l
-
--- no number has more than five digits
-abbrev pub Short : Line → Type 0
-Short l = NumbersBelow 100000 l
+use Rattle.lines.specs.Shape.{kind_of}
+use Rattle.lines.specs.Written.{written, Fit, Short}
 
 -- an input, or a gate with its two edges
 pub data Node : Type 0 where

@@ -1,11 +1,11 @@
 -- the order of the lines, and the numbers due
 use Rattle.std.specs.Prelude.{◌≡◌, ℕ, ◌+◌, Bool, cond, ◌&&◌, List, [], ◌∷◌, Some, None, Ok, Err, Option, Result, MatchResult, ◌==◌, nat_le}
-use Rattle.netlist.specs.declared.lines.Key.{Key}
-use Rattle.netlist.specs.declared.lines.Key.TheVariants as key
-use Rattle.netlist.specs.declared.lines.Line.{Line}
-use Rattle.netlist.specs.declared.lines.Line.TheVariants.{Net, Input, Gate, Out, End}
-use Rattle.netlist.specs.declared.faults.LineFault.{LineFault}
-use Rattle.netlist.specs.declared.faults.LineFault.TheVariants as fault
+use Rattle.lines.specs.declared.lines.Key.{Key}
+use Rattle.lines.specs.declared.lines.Key.TheVariants as key
+use Rattle.lines.specs.declared.lines.Line.{Line}
+use Rattle.lines.specs.declared.lines.Line.TheVariants.{Net, Input, Gate, Out, End}
+use Rattle.lines.specs.declared.faults.LineFault.{LineFault}
+use Rattle.lines.specs.declared.faults.LineFault.TheVariants as fault
 use Rattle.netlist.specs.declared.faults.ReadFault.{ReadFault}
 use Rattle.netlist.specs.declared.faults.ReadFault.TheVariants as read
 use Rattle.netlist.specs.declared.faults.TextFault.{TextFault}
@@ -13,7 +13,7 @@ use Rattle.netlist.specs.declared.reader.Place.{Place}
 use Rattle.netlist.specs.declared.reader.Place.TheVariants.{Start, Nodes, Outs, Ended}
 use Rattle.netlist.specs.declared.reader.Reader.{Reader}
 use Rattle.netlist.specs.declared.reader.Outline.{Outline}
-use Rattle.netlist.specs.Shape.{kind_of, read_line}
+use Rattle.lines.specs.Shape.{kind_of, read_line}
 
 -- inputs and gates so far
 abbrev pub nodes_of : Reader → ℕ

@@ -1,7 +1,7 @@
 -- the number of each refusal
 use Rattle.std.specs.Prelude.{ℕ}
-use Rattle.netlist.specs.declared.faults.LineFault.{LineFault}
-use Rattle.netlist.specs.declared.faults.LineFault.TheVariants.{Shape, Place, Number}
+use Rattle.lines.specs.declared.faults.LineFault.{LineFault}
+use Rattle.lines.specs.declared.faults.LineFault.TheVariants.{Shape, Place, Number}
 use Rattle.netlist.specs.declared.faults.SessionFault.{SessionFault}
 use Rattle.netlist.specs.declared.faults.SessionFault.TheVariants.{Edge, Capacity, Outputs}
 use Rattle.netlist.specs.declared.faults.ReadFault.{ReadFault}

@@ -3,16 +3,7 @@ ghost use Rattle.std.specs.Prelude.{◌≡◌};
 ghost use Rattle.netlist.specs.declared.faults.ReadFault.TheVariants as read_fault;
 ghost use Rattle.netlist.specs.Refusals.{refusal};
 
-// A rule for lines that is broken.
-#[derive(Clone, Copy, PartialEq, Eq, Debug)]
-pub enum LineFault {
-    // The line has no known shape.
-    Shape,
-    // The line is out of place, or there is no end line.
-    Place,
-    // A number is above the limit, or is not the one due.
-    Number,
-}
+use lines::LineFault;
 
 // A call on a session that was refused; no session takes part in reading yet.
 #[derive(Clone, Copy, PartialEq, Eq, Debug)]

@@ -3,11 +3,8 @@
 #![tactic(auto)]
 
 mod faults;
-mod lines;
-mod numbers;
 mod reader;
 
-pub use faults::{LineFault, ReadFault, SessionFault, TextFault};
-pub use lines::{Line, read_line};
-pub use numbers::read_number;
+pub use faults::{ReadFault, SessionFault, TextFault};
+pub use lines::{Line, LineFault, read_line, read_number};
 pub use reader::{Outline, read_text};

@@ -1,13 +1,13 @@
 // The order of the lines, and the numbers due.
 ghost use Rattle.std.specs.Prelude.{◌≡◌, ◌+◌, ◌^◌, ◌<◌, if◌then◌else◌, Some, Ok, Err};
-ghost use Rattle.netlist.specs.declared.faults.LineFault.TheVariants as line_fault;
-ghost use Rattle.netlist.specs.declared.lines.Line.TheVariants as line_kind;
+ghost use Rattle.lines.specs.declared.faults.LineFault.TheVariants as line_fault;
+ghost use Rattle.lines.specs.declared.lines.Line.TheVariants as line_kind;
 ghost use Rattle.netlist.specs.declared.reader.Place.TheVariants as reader_place;
 ghost use Rattle.netlist.specs.Net.{Follows, Refused, Told};
 ghost use Rattle.netlist.specs.Reading.{nodes_of, in_range, is_due, onwards, after_line, Becomes, step_line, finished, at_line, read_text};
 
-use crate::faults::{LineFault, ReadFault, TextFault};
-use crate::lines::{Cut, Line, cut_at, read_line};
+use crate::faults::{ReadFault, TextFault};
+use lines::{Cut, Line, LineFault, cut_at, read_line};
 
 // How many lines of each kind a text has, and the number of its end line.
 #[derive(Clone, Copy, PartialEq, Eq, Debug)]
