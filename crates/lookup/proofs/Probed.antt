@@ -1,7 +1,7 @@
 -- One step of a search, by what the slot holds.
-use Rattle.std.proofs.Common.{◌≡◌, ℕ, suc, true, false, List, length, get_or, refl, Some, None}
+use Rattle.std.proofs.Common.{◌≡◌, ℕ, suc, true, List, get_or, refl, Some, None}
 use Rattle.model.specs.Keys.{eq_list}
-use Rattle.lookup.specs.Slots.{Found, Open, Nowhere, Slot, probed_from, after}
+use Rattle.lookup.specs.Slots.{Found, Open, Nowhere, Slot, probed_from}
 
 module _ {K : Type 0} (mean : K → List ℕ) (slots : List (Slot K)) (m : List ℕ) where
   pub probe_none : (i : ℕ) → probed_from mean slots m 0 i ≡ Nowhere
@@ -15,8 +15,3 @@ module _ {K : Type 0} (mean : K → List ℕ) (slots : List (Slot K)) (m : List 
   pub probe_found : (f i : ℕ) (k : K) (v : ℕ) → get_or slots i None ≡ Some (k, v) → eq_list (mean k) m ≡ true → probed_from mean slots m (suc f) i ≡ Found i v
   unfolding probed_from
   probe_found f i k v e s = rw e (rw s refl)
-
-  pub probe_on : (f i : ℕ) (k : K) (v : ℕ) → get_or slots i None ≡ Some (k, v) → eq_list (mean k) m ≡ false
-      → probed_from mean slots m (suc f) i ≡ probed_from mean slots m f (after (length slots) i)
-  unfolding probed_from
-  probe_on f i k v e s = rw e (rw s refl)

@@ -1,12 +1,11 @@
 -- How many slots are taken, what entering answers by that, and what the slots stand for afterwards.
 use Rattle.std.proofs.Common.{◌≡◌, ℕ, zero, suc, ◌+◌, ◌<◌, ◌≤◌, cond, List, [], ◌∷◌, length, get_or, set, replicate, Some, None, Option, Ok, Err, sym, refl, ap, ◌∙◌, arith, length-set}
 use Rattle.std.proofs.lemmas.Bool.{lt-ltb, le-ltb}
-use Rattle.std.specs.Option.{option_to_list}
 use Rattle.model.specs.Keys.{eq_list}
 use Rattle.model.proofs.Keys.{first-none, first_one}
 use Rattle.lookup.specs.declared.slot.NotEntered.TheVariants.{Full}
 use Rattle.lookup.specs.Slots.{Place, Found, Open, Nowhere, Slot, probed, found, value_at, slots_after, answer_at, Inside}
-use Rattle.lookup.specs.Entries.{Tidy, taken_by, taken, answer_for, with_entry, Stands, Entry, entered, Holds, entries_after}
+use Rattle.lookup.specs.Entries.{taken_by, taken, answer_for, with_entry, Stands, Entry, entered, Holds, entries_after}
 use Rattle.lookup.proofs.Probed.{probe_none, probe_free}
 use Rattle.lookup.proofs.Passed.{inside-from, none_free}
 use Rattle.lookup.proofs.Entering.{was_open, open_tidy, open_gives}
@@ -30,11 +29,6 @@ module _ {K : Type 0} where
   taken_more [] i k v l e = absurd (omega arith)
   taken_more (s ∷ ss) zero k v l e = omega (arith, ap taken_by e)
   taken_more (s ∷ ss) (suc i) k v l e = omega (arith, taken_more ss i k v (omega arith) e)
-
-pub length-after : {K : Type 0} (p : Place) (slots : List (Slot K)) (k : K) (v : ℕ) → length (slots_after p slots k v) ≡ length slots
-length-after (Found i w) slots k v = refl
-length-after (Open i) slots k v = length-set slots i (Some (k, v))
-length-after Nowhere slots k v = refl
 
 taken_none : (K : Type 0) (n : ℕ) → taken {K = K} (replicate n None) ≡ 0
 taken_none K zero = refl
@@ -121,17 +115,6 @@ module _ {K : Type 0} (mean : K → List ℕ) (first : List ℕ → ℕ → ℕ)
               count = omega (arith, t.count);
             }
         go Nowhere e = s
-
--- two look-ups that list the same agree; a struct's own fact can be an equation of lists, and not of options
-pub list_same : {A : Type 0} (a b : Option A) → option_to_list a ≡ option_to_list b → a ≡ b
-list_same (Some x) (Some y) e = cc
-list_same (Some x) None e = cc
-list_same None (Some y) e = cc
-list_same None None e = refl
-
-pub stands_of : {K : Type 0} (mean : K → List ℕ) (first : List ℕ → ℕ → ℕ) (slots : List (Slot K)) (look : List ℕ → Option ℕ) (n : ℕ)
-    → Tidy mean first slots → ((q : List ℕ) → option_to_list (found mean first slots q) ≡ option_to_list (look q)) → taken slots ≡ n → Stands mean first slots look n
-stands_of mean first slots look n t g c = record { tidy = t; gives = λ q. list_same (found mean first slots q) (look q) (g q); count = c }
 
 -- a key that is found is not entered again
 pub found-stays : {K : Type 0} (mean : K → List ℕ) (first : List ℕ → ℕ → ℕ) (slots : List (Slot K)) (m : List ℕ) (k : K) (v w : ℕ)

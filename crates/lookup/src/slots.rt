@@ -14,7 +14,7 @@ fn is_end<K: Key>(slot: &Slot<K>, key: &K) -> bool
     }
 }
 
-// The slot at which the search for a key ends. It goes from the key's first slot on, past the last slot to slot 0, through each slot at most once.
+// The slot at which the search for a key ends: it goes from the key's first slot on, and past the last slot to slot 0.
 pub(crate) fn probe<K: HashedKey>(slots: &[Slot<K>], key: &K) -> Option<usize>
     ensures within { IfSome result (λ i. i < length slots.now) }
     ensures exact { result ≡ slot_at (probed K.Key.meaning K.HashedKey.slot slots.now (K.Key.meaning key.now)) }

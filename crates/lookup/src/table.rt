@@ -7,6 +7,7 @@ use crate::slot::{NotEntered, Slot};
 use crate::slots::{probe, store};
 
 // A look-up table over lent slots, for any hashed key.
+// Its clauses name the key's meaning and first slot each time: a definition over the table would have to be given both as well.
 #[derive(Drop)]
 pub struct SlotTable<'a, K> {
     slots: &'a mut [Slot<K>],

@@ -7,6 +7,7 @@ use crate::leaf_key::LeafKey;
 use lookup::SlotTable;
 
 // A table with what is known of its slots, as facts of the struct.
+// The table itself counts neither its slots nor those taken, so both numbers stand beside it.
 #[derive(Drop)]
 pub struct Known<'a> {
     pub(crate) keys: SlotTable<'a, LeafKey>,

@@ -1,6 +1,7 @@
 ghost use Rattle.std.specs.Prelude.{◌≡◌, ◌≤◌, ◌∷◌, take};
 
 // A table and its leaves, the first `count` of `leaves`.
+// An array with its length beside it, as a key is copied into a lent slot and may own no heap.
 #[derive(Clone, Copy)]
 pub struct LeafKey {
     pub(crate) leaves: [u16; 4],
@@ -24,6 +25,6 @@ impl LeafKey {
     pub(crate) fn leaves(&self) -> &[u16]
         ensures { result.now ≡ take self.now.count self.now.leaves }
     {
-        &self.leaves[0..self.count]
+        &self.leaves[..self.count]
     }
 }

@@ -28,12 +28,8 @@ impl<'a> Known<'a> {
         ensures learned { result ≡ true → (q : List ℕ) → found leaf_meaning hashed_slot self.new.keys.slots.now q ≡ with_entry (leaf_meaning key) value (found leaf_meaning hashed_slot self.old.keys.slots.now) q }
         ensures same { result ≡ false → self.new ≡ self.old }
     {
-        if self.count >= self.limit {
+        if self.count >= self.limit || self.keys.find(&key).is_some() {
             return false;
-        }
-        match self.keys.find(&key) {
-            Some(_) => return false,
-            None => {}
         }
         let _ = self.keys.enter(key, value);
         self.count += 1;

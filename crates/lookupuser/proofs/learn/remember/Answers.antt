@@ -1,13 +1,10 @@
-use Rattle.std.proofs.Common.{cond, length, Some, None, refl, ap, ◌∙◌, arith}
-use lib.ListN.{length-replicate}
+use Rattle.std.proofs.Common.{cond, Some, None, refl, ap, ◌∙◌, arith}
 use Rattle.model.proofs.Keys.{same_refl}
 use Rattle.lookupuser.specs.Leaves.{leaf_meaning}
 use Rattle.lookupuser.proofs.learn.remember.Goals as goal
 
 pub returns : goal.returns
 returns c = λ pos.
-    let n = length c.args.slots.now in
     let m = leaf_meaning c.args.key in
-    let long = ap length c.open-table.ensures.slots ∙ length-replicate n None in
-    let entered = c.enter.ensures.new (λ _. None) 0 c.open-table.ensures.stands refl (omega (arith, long)) in
+    let entered = c.enter.ensures.new (λ _. None) 0 c.open-table.ensures.stands refl (omega (arith, c.open-table.ensures.room)) in
     c.find.ensures.exact ∙ entered.1.gives m ∙ ap (λ t. cond t (Some c.args.value) None) (same_refl m)

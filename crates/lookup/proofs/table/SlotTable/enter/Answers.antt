@@ -1,20 +1,16 @@
-use Rattle.std.proofs.Common.{length, ap, ◌∙◌}
-use Rattle.lookup.specs.Slots.{probed}
-use Rattle.lookup.proofs.Standing.{length-after, answers, new-stands, after_holds}
+use Rattle.std.proofs.Common.{◌∙◌}
+use Rattle.lookup.proofs.Standing.{answers, new-stands, after_holds}
 use Rattle.lookup.proofs.table.SlotTable.enter.Goals as goal
 
-pub returns : goal.returns
-returns g c =
-    let mean = g.K.Key.meaning in
-    let first = g.K.HashedKey.slot in
-    let law = g.met.K.HashedKey.within in
-    let xs = c.args.self.now.slots.now in
-    let k = c.args.key in
-    let v = c.args.value in
-    record {
-      slots = c.store.ensures.slots;
-      room = ap length c.store.ensures.slots ∙ length-after (probed mean first xs (mean k)) xs k v;
-      told = c.store.ensures.answer ∙ answers mean first law xs k v;
-      new = λ look n s e l. rw (c.store.ensures.slots, c.store.ensures.answer) (new-stands mean first law xs k v look n s e l);
-      holds = λ entries s. rw (c.store.ensures.slots, c.store.ensures.answer) (after_holds mean first law xs k v entries s);
-    }
+pub returns-clause-told : goal.returns-clause-told
+returns-clause-told g c = c.store.ensures.answer ∙ answers g.K.Key.meaning g.K.HashedKey.slot g.met.K.HashedKey.within c.args.self.now.slots.now c.args.key c.args.value
+
+pub returns-clause-new : goal.returns-clause-new
+returns-clause-new g c = λ look n s e l.
+    rw (c.store.ensures.slots, c.store.ensures.answer)
+    (new-stands g.K.Key.meaning g.K.HashedKey.slot g.met.K.HashedKey.within c.args.self.now.slots.now c.args.key c.args.value look n s e l)
+
+pub returns-clause-holds : goal.returns-clause-holds
+returns-clause-holds g c = λ entries s.
+    rw (c.store.ensures.slots, c.store.ensures.answer)
+    (after_holds g.K.Key.meaning g.K.HashedKey.slot g.met.K.HashedKey.within c.args.self.now.slots.now c.args.key c.args.value entries s)
