@@ -1,5 +1,5 @@
 // Counts the answers for all texts next to a good one.
-use netlist::{LineFault, ReadFault};
+use netlist::LineFault;
 use std::fmt;
 
 const GOOD: [u8; 36] = *b"net=1\nin=1\nin=2\nand=2,5\nout=7\nend=3\n";
@@ -47,12 +47,9 @@ impl Counts {
             Err(e) => {
                 self.lines = self.lines.saturating_add(e.line);
                 match e.fault {
-                    ReadFault::Line(LineFault::Shape) => self.shape = self.shape.saturating_add(1),
-                    ReadFault::Line(LineFault::Place) => self.place = self.place.saturating_add(1),
-                    ReadFault::Line(LineFault::Number) => self.number = self
-                        .number
-                        .saturating_add(1),
-                    ReadFault::Session(_) => {}
+                    LineFault::Shape => self.shape = self.shape.saturating_add(1),
+                    LineFault::Place => self.place = self.place.saturating_add(1),
+                    LineFault::Number => self.number = self.number.saturating_add(1),
                 }
             }
         }

@@ -1,5 +1,5 @@
 -- where the first mark stands
-use Rattle.std.proofs.Common.{◌≡◌, ℕ, zero, suc, ◌+◌, ◌<◌, Bool, true, false, cond, eqb, List, [], ◌∷◌, ◌++◌, length, get_or, take, drop, Some, None, Option, sym, refl, ap, ◌∙◌, add-one, arith, eq-eqb, ne_eqb}
+use Rattle.std.proofs.Common.{◌≡◌, ℕ, zero, suc, ◌+◌, ◌<◌, Bool, true, false, cond, eqb, List, [], ◌∷◌, ◌++◌, length, get_or, take, drop, Some, None, Option, sym, refl, ap, ◌∙◌, add-one, arith, eq-eqb, ne_eqb, subst, length-append}
 use Rattle.std.specs.List.{AllByRecursion}
 use Rattle.std.proofs.lemmas.Bool.{eqb-true, eqb-false}
 use Rattle.lines.specs.Shape.{cut_at, in_front}
@@ -45,3 +45,10 @@ parts_by mark c cs false e o h = parts-front mark c cs (eqb-false c mark e) o h
 pub cut_parts : (mark : ℕ) (bs : List ℕ) → Parts mark bs (cut_at mark bs)
 cut_parts mark [] = tt
 cut_parts mark (c ∷ cs) = parts_by mark c cs (eqb c mark) refl (cut_at mark cs) (cut_parts mark cs)
+
+module _ (mark : ℕ) (bs b a : List ℕ) (cut : cut_at mark bs ≡ Some (b, a)) where
+  pub cut-at : (bs ≡ b ++ mark ∷ a) × Lacks mark b
+  cut-at = subst (Parts mark bs) cut (cut_parts mark bs)
+
+  pub cut-length : length bs ≡ length b + length a + 1
+  cut-length = ap length cut-at.0 ∙ simp length-append (omega arith)

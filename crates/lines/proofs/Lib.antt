@@ -1,3 +1,8 @@
 pub mod Cuts
 pub mod Digits
+pub mod Exact
+pub mod Moving
+pub mod Onward
+pub mod Ordering
+pub mod Telling
 pub mod Writing

@@ -1,3 +1,2 @@
 pub mod Net
 pub mod Reading
-pub mod Refusals

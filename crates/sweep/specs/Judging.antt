@@ -1,15 +1,16 @@
 -- what the program answers for its input
 use Rattle.std.specs.Prelude.{ℕ, cond, List, length, Ok, Err, Result, nat_le}
-use Rattle.netlist.specs.declared.faults.TextFault.{TextFault}
+use Rattle.lines.specs.declared.faults.LineFault.{LineFault}
+use Rattle.lines.specs.declared.faults.TextFault.{TextFault}
+use Rattle.lines.specs.Faults.{line_refusal}
 use Rattle.netlist.specs.declared.reader.Outline.{Outline}
 use Rattle.netlist.specs.Reading.{read_text}
-use Rattle.netlist.specs.Refusals.{refusal}
 use Rattle.sweep.specs.declared.Refusal.{Refusal}
 
-abbrev pub refusal_of : TextFault → Refusal
-refusal_of e = record { number = refusal e.fault; line = e.line }
+abbrev pub refusal_of : TextFault LineFault → Refusal
+refusal_of e = record { number = line_refusal e.fault; line = e.line }
 
-abbrev pub answered : Result Outline TextFault → Result Outline Refusal
+abbrev pub answered : Result Outline (TextFault LineFault) → Result Outline Refusal
 answered (Ok o) = Ok o
 answered (Err e) = Err (refusal_of e)
 
