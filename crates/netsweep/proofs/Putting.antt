@@ -4,7 +4,8 @@ use Rattle.model.specs.Rankings.{by_height}
 use Rattle.model.specs.Sessions.{State, Tables, positions, lean, opened}
 use Rattle.model.specs.Runs.{Run, opening}
 use Rattle.model.proofs.Sound.{sessions-fit}
-use Rattle.reading.specs.Net.{net_lines, Follows}
+use Rattle.lines.specs.Net.{net_lines}
+use Rattle.reading.specs.Net.{Follows}
 use Rattle.reading.specs.Calls.{RunsOn}
 use Rattle.pages.specs.declared.short.Short.{Short}
 use Rattle.pages.specs.Page.{over, Writes}

@@ -6,17 +6,10 @@ use Rattle.model.specs.Search.{Decision, folded, shared, merged, made, decide}
 use Rattle.model.specs.Sessions.{State, After, Answer, node, swept, mapped_edge, filled, counted, refused, Refusal, no_node, at_capacity, no_output_row, positions, has_room, knows, decline, with_input, with_gate, with_output, map_edge}
 use Rattle.lines.specs.declared.lines.Line.{Line}
 use Rattle.lines.specs.declared.lines.Line.TheVariants.{Net, Input, Gate, Out, End}
+use Rattle.lines.specs.Order.{counts}
 use Rattle.sweeper.specs.Tables.{Image, state_of, node_in, no_source, no_reduced, no_edge, Rest}
 use Rattle.sweeper.proofs.Newest.{newest-length}
 use Rattle.reading.specs.Reading.{unless_refused, after_call, called}
-
--- so many nodes with the line's own
-abbrev pub counts : Line → ℕ → ℕ
-counts (Net n) nodes = nodes
-counts (Input n) nodes = nodes + 1
-counts (Gate a b) nodes = nodes + 1
-counts (Out e) nodes = nodes
-counts (End n) nodes = nodes
 
 counts_up : (l : Line) (n : ℕ) → n ≤ counts l n
 counts_up (Net k) n = omega arith

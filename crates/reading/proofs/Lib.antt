@@ -1,8 +1,5 @@
 pub mod Answering
 pub mod Calling
 pub mod Continuing
-pub mod Exact
 pub mod Growth
-pub mod Law
-pub mod Onward
-pub mod Order
+pub mod Stepping

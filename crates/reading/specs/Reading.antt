@@ -1,54 +1,17 @@
--- the order of the lines, the numbers due, and the calls of a session
-use Rattle.std.specs.Prelude.{◌≡◌, ℕ, ◌+◌, Bool, cond, ◌&&◌, List, [], ◌∷◌, length, Some, None, Ok, Err, Option, Result, MatchResult, ◌==◌, nat_le}
+-- the calls of a session that lines ask for
+use Rattle.std.specs.Prelude.{◌≡◌, ℕ, Bool, true, false, List, length, Some, None, Ok, Err, Option, Result, MatchResult}
 use Rattle.model.specs.Rankings.{Before}
 use Rattle.model.specs.Sessions.{State, After, Answer, node, swept, mapped_edge, filled, counted, refused, Refusal, positions, input_step, gate_step, output_step}
-use Rattle.lines.specs.declared.lines.Key.{Key}
-use Rattle.lines.specs.declared.lines.Key.TheVariants as key
+use Rattle.lines.specs.declared.faults.LineFault.{LineFault}
 use Rattle.lines.specs.declared.lines.Line.{Line}
 use Rattle.lines.specs.declared.lines.Line.TheVariants.{Net, Input, Gate, Out, End}
-use Rattle.lines.specs.declared.faults.LineFault.{LineFault}
-use Rattle.lines.specs.declared.faults.LineFault.TheVariants as fault
-use Rattle.lines.specs.Shape.{kind_of, read_line}
-use Rattle.sweeper.specs.declared.session.Session.{Session}
-use Rattle.sweeper.specs.States.{state_in}
+use Rattle.lines.specs.Position.{Position, next_line}
+use Rattle.lines.specs.Reading as lines
+use Rattle.lines.specs.Reading.{Taker, broken, declined}
+use Rattle.sweeper.specs.declared.refusal.Refusal as session
+use Rattle.sweeper.specs.Answers.{refusal_in}
 use Rattle.reading.specs.declared.faults.ReadFault.{ReadFault}
-use Rattle.reading.specs.declared.reader.Place.{Place}
-use Rattle.reading.specs.declared.reader.Place.TheVariants.{Start, Nodes, Outs, Ended}
-use Rattle.reading.specs.declared.reader.Reader.{Reader}
-use Rattle.reading.specs.Faults.{Fault, broken, declined, fault_in, Stop}
-
--- where a line with this key is in place: the place that it leads to
-abbrev pub leads_to : Place → Key → Option Place
-leads_to Start key.Net = Some Nodes
-leads_to Start key.Input = None
-leads_to Start key.Gate = None
-leads_to Start key.Out = None
-leads_to Start key.End = None
-leads_to Nodes key.Net = None
-leads_to Nodes key.Input = Some Nodes
-leads_to Nodes key.Gate = Some Nodes
-leads_to Nodes key.Out = Some Outs
-leads_to Nodes key.End = Some Ended
-leads_to Outs key.Net = None
-leads_to Outs key.Input = None
-leads_to Outs key.Gate = None
-leads_to Outs key.Out = Some Outs
-leads_to Outs key.End = Some Ended
-leads_to Ended k = None
-
-abbrev pub in_range : ℕ → Bool
-in_range n = nat_le n 32767
-
-abbrev pub is_due : ℕ → ℕ → Bool
-is_due n due = in_range n && n == due
-
--- after so many nodes, the line's numbers are at most 32,767 and the ones due
-abbrev pub numbers_due : ℕ → Line → Bool
-numbers_due nodes (Net n) = is_due n 1
-numbers_due nodes (Input n) = is_due n (nodes + 1)
-numbers_due nodes (Gate a b) = in_range a && in_range b
-numbers_due nodes (Out e) = in_range e
-numbers_due nodes (End n) = is_due n nodes
+use Rattle.reading.specs.Faults.{Fault, fault_in}
 
 -- the state after a call that was answered so
 abbrev pub unless_refused : Answer → State → Result State Refusal
@@ -70,95 +33,39 @@ called before s (Gate a b) = after_call (gate_step positions before s a b)
 called before s (Out e) = after_call (output_step s e)
 called before s (End n) = Ok s
 
-abbrev pub unless_declined : Result State Refusal → Result State Fault
-unless_declined (Ok t) = Ok t
-unless_declined (Err r) = Err (declined r)
+-- a call that may be refused: the state becomes what was due, or is as it was
+abbrev pub Becomes : Result State Refusal → State → Result (Unit {0}) session.Refusal → State → Type 0
+Becomes due s r u = MatchResult r (λ _. due ≡ Ok u) (λ e. (due ≡ Err (refusal_in e)) × (u ≡ s))
 
--- the state after a line in place: its numbers are looked at first, then its call is made
-abbrev pub taken : Before → State → Line → Result State Fault
-taken before s l = cond (numbers_due (length s.source) l) (unless_declined (called before s l)) (Err (broken fault.Number))
+-- the session that takes lines
+abbrev pub caller : Before → Taker State Refusal
+caller before = record { nodes = λ s. length s.source; taken = called before }
 
--- a place among the lines, and the session's state there
-pub record Point : Type 0 where
-  pub place : Place
-  pub state : State
+abbrev pub after_called : Position → Result State Refusal → Result (Option (Position × State)) Fault
+after_called t (Ok u) = Ok (Some (t, u))
+after_called t (Err r) = Err (declined r)
 
-abbrev pub point_in : Reader → Session → Point
-point_in r s = record { place = r.place; state = state_in s }
+abbrev pub after_next : Before → State → Result (Option (Line × Position)) LineFault → Result (Option (Position × State)) Fault
+after_next before s (Ok None) = Ok None
+after_next before s (Ok (Some (l, t))) = after_called t (called before s l)
+after_next before s (Err e) = Err (broken e)
 
-abbrev pub arrived : Place → Result State Fault → Result Point Fault
-arrived p (Ok t) = Ok (record { place = p; state = t })
-arrived p (Err f) = Err f
+-- the position and the state after the next line, or none after the end line
+abbrev pub step : Before → Position → State → Result (Option (Position × State)) Fault
+step before p s = after_next before s (next_line (length s.source) p)
 
-abbrev pub onwards : Option Place → Result State Fault → Result Point Fault
-onwards None r = Err (broken fault.Place)
-onwards (Some p) r = arrived p r
+abbrev pub Stays : Position → State → Position → State → Type 0
+Stays p s q u = (q ≡ p) × (u ≡ s)
 
--- a point after a line of known shape: its place is looked at first
-abbrev pub after_line : Before → Point → Line → Result Point Fault
-after_line before p l = onwards (leads_to p.place (kind_of l)) (taken before p.state l)
-
--- a call that may be refused: what was due comes to be, or all is as it was
-abbrev pub Becomes : {X : Type 0} → Result X Fault → X → Result (Unit {0}) ReadFault → X → Type 0
-Becomes due x r y = MatchResult r (λ _. due ≡ Ok y) (λ e. (due ≡ Err (fault_in e)) × (y ≡ x))
-
-abbrev pub step_with : Before → Point → Result Line LineFault → Result Point Fault
-step_with before p (Ok l) = after_line before p l
-step_with before p (Err e) = Err (broken e)
-
--- a point after a line's bytes
-abbrev pub step_line : Before → Point → List ℕ → Result Point Fault
-step_line before p bs = step_with before p (read_line bs)
-
--- after the last line: the end line must have been read
-abbrev pub ended_at : Place → Result (Unit {0}) Fault
-ended_at Start = Err (broken fault.Place)
-ended_at Nodes = Err (broken fault.Place)
-ended_at Outs = Err (broken fault.Place)
-ended_at Ended = Ok tt
-
--- bytes after the last byte 10 are a line of no known shape
-abbrev pub finished : Place → List ℕ → Result (Unit {0}) Fault
-finished p [] = ended_at p
-finished p (c ∷ cs) = Err (broken fault.Shape)
-
-abbrev pub at_line : ℕ → Result (Unit {0}) Fault → Result (Unit {0}) Stop
-at_line k (Ok x) = Ok x
-at_line k (Err e) = Err (record { line = k; fault = e })
-
--- a text cut at each byte 10: the lines that it ends, and the bytes after the last one
-pub record Lines : Type 0 where
-  pub ended : List (List ℕ)
-  pub rest : List ℕ
-
-abbrev pub longer : ℕ → List (List ℕ) → List ℕ → Lines
-longer c [] rest = record { ended = []; rest = c ∷ rest }
-longer c (l ∷ ls) rest = record { ended = (c ∷ l) ∷ ls; rest = rest }
-
-unfoldable pub lines_of : List ℕ → Lines
-lines_of [] = record { ended = []; rest = [] }
-lines_of (c ∷ cs) =
-    cond (c == 10)
-    (record { ended = [] ∷ (lines_of cs).ended; rest = (lines_of cs).rest })
-    (longer c (lines_of cs).ended (lines_of cs).rest)
+-- the next line and its call move on, or all is as it was
+abbrev pub Steps : Before → Position → State → Result Bool ReadFault → Position → State → Type 0
+Steps before p s (Ok true) q u = step before p s ≡ Ok (Some (q, u))
+Steps before p s (Ok false) q u = (step before p s ≡ Ok None) × Stays p s q u
+Steps before p s (Err e) q u = (step before p s ≡ Err (fault_in e)) × Stays p s q u
 
 -- what is answered, and the state that is left
-pub record Read : Type 0 where
-  pub answer : Result (Unit {0}) Stop
-  pub state : State
-
-abbrev pub go_on : ℕ → State → Result Point Fault → (Point → Read) → Read
-go_on k s (Ok p) f = f p
-go_on k s (Err e) f = record { answer = Err (record { line = k; fault = e }); state = s }
-
--- reading the lines from line k on, at a point: the first that is refused ends it and leaves the state before it
-unfoldable pub read_lines : Before → ℕ → Point → List (List ℕ) → List ℕ → Read
-read_lines before k p [] rest = record { answer = at_line k (finished p.place rest); state = p.state }
-read_lines before k p (l ∷ ls) rest = go_on k p.state (step_line before p l) (λ q. read_lines before (k + 1) q ls rest)
-
--- reading what is left of a text
-abbrev pub read_rest : Before → ℕ → Point → List ℕ → Read
-read_rest before k p bs = read_lines before k p (lines_of bs).ended (lines_of bs).rest
+abbrev pub Read : Type 0
+Read = lines.Read State Refusal
 
 abbrev pub read_text : Before → State → List ℕ → Read
-read_text before s bs = read_rest before 1 (record { place = Start; state = s }) bs
+read_text before s bs = lines.read_text (caller before) s bs

@@ -1,4 +1,4 @@
-// Why a text is refused, and at which line.
+// Why a line of a text is refused.
 ghost use Rattle.std.specs.Prelude.{◌≡◌, ℕ};
 ghost use Rattle.model.specs.Sessions.{refusal_number};
 ghost use Rattle.reading.specs.declared.faults.ReadFault.TheVariants as read_fault;
@@ -21,9 +21,7 @@ impl ReadFault {
         ensures { (k : ℕ) → result ≡ refusal_number (refusal_at k (fault_in self)) }
     {
         match self {
-            ReadFault::Line(LineFault::Shape) => 7,
-            ReadFault::Line(LineFault::Place) => 8,
-            ReadFault::Line(LineFault::Number) => 9,
+            ReadFault::Line(fault) => fault.number(),
             ReadFault::Session(refusal) => refusal.number(),
         }
     }
@@ -45,9 +43,5 @@ impl From<Refusal> for ReadFault {
     }
 }
 
-// The first line that is refused, counted from 1.
-#[derive(Clone, Copy)]
-pub struct TextFault {
-    pub line: usize,
-    pub fault: ReadFault,
-}
+// The first line that is refused, and why.
+pub type TextFault = lines::TextFault<ReadFault>;

@@ -8,8 +8,10 @@ use Rattle.model.specs.Rankings.{Before}
 use Rattle.model.specs.Sessions.{State, map_edge}
 use Rattle.model.proofs.Sound.{lose_nothing, sessions-fit}
 use Rattle.lines.specs.Written.{written, Fit}
-use Rattle.reading.specs.declared.faults.TextFault.{TextFault}
-use Rattle.reading.specs.Net.{net_lines, Accepted, Follows}
+use Rattle.lines.specs.declared.faults.TextFault.{TextFault}
+use Rattle.lines.specs.Net.{net_lines}
+use Rattle.reading.specs.declared.faults.ReadFault.{ReadFault}
+use Rattle.reading.specs.Net.{Accepted, Follows}
 use Rattle.pages.specs.Page.{over}
 use Rattle.listing.specs.Sections.{net_text}
 use Rattle.sweeper.specs.Runs.{Reached}
@@ -62,7 +64,7 @@ pub read_back : (text page page' : List ℕ) (n : ℕ) → n ≡ length text →
 read_back text page page' n e p = ap (take n) p ∙ front text page n e
 
 -- what the texts that a session takes come to
-abbrev pub Accepting : Before → State → List ℕ → Result (Unit {0}) TextFault → State → Type 0
+abbrev pub Accepting : Before → State → List ℕ → Result (Unit {0}) (TextFault ReadFault) → State → Type 0
 Accepting f t text a u = (v : State) → Follows f t text v → (a ≡ Ok tt) × (u ≡ v)
 
 module _ (f : Before) (s t : State) (page : List ℕ) (r : Result ℕ RebuildFault) (u : State) where
@@ -74,9 +76,9 @@ module _ (f : Before) (s t : State) (page : List ℕ) (r : Result ℕ RebuildFau
     outputs = λ k room. absurd (omega (arith, h, room));
   }
 
-  module _ (reached : Reached s) (a : Result (Unit {0}) TextFault) (accepts : Accepting f t (net_text s) a u) where
+  module _ (reached : Reached s) (a : Result (Unit {0}) (TextFault ReadFault)) (accepts : Accepting f t (net_text s) a u) where
     -- a session that takes the net refuses no line of it
-    none_takes : (d : TextFault) → a ≡ Err d → Takes t s.reduced s.outputs → ⊥
+    none_takes : (d : TextFault ReadFault) → a ≡ Err d → Takes t s.reduced s.outputs → ⊥
     none_takes d e k =
         let w = takes f s t reached k in
         let ok = (accepts w.after w.follows).0 in
@@ -84,7 +86,7 @@ module _ (f : Before) (s t : State) (page : List ℕ) (r : Result ℕ RebuildFau
         omega arith
 
     -- a line of the written net was refused: then the other session was not new, or had no space
-    pub rebuilds_refused : (d : TextFault) → a ≡ Err d → Rebuilds s t page r u
+    pub rebuilds_refused : (d : TextFault ReadFault) → a ≡ Err d → Rebuilds s t page r u
     rebuilds_refused d e = record {
       answer = λ k room. absurd (none_takes d e k);
       source = λ k room. absurd (none_takes d e k);

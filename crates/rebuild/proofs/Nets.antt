@@ -19,9 +19,10 @@ use Rattle.model.proofs.Consistent.{map-within, run_consistent}
 use Rattle.lines.specs.declared.lines.Line.{Line}
 use Rattle.lines.specs.declared.lines.Line.TheVariants.{Net, Input, Gate, Out, End}
 use Rattle.lines.specs.Written.{line_in, written, Fit}
-use Rattle.reading.specs.Net.{node_lines, net_lines, Accepted}
+use Rattle.lines.specs.Net as net
+use Rattle.lines.specs.Net.{node_lines, net_lines}
+use Rattle.reading.specs.Net.{Accepted}
 use Rattle.reading.specs.Reading.{called}
-use Rattle.reading.specs.Net as net
 
 -- a list whose newest stands first, from its oldest on
 abbrev pub oldest : {A : Type 0} → List A → List A

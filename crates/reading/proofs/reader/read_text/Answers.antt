@@ -1,17 +1,20 @@
-use Rattle.std.proofs.Common.{◌≡◌, Err, sym, refl, ap, ◌∙◌, arith}
+use Rattle.std.proofs.Common.{◌≡◌, Ok, Err, sym, ap, ◌∙◌, subst}
 use Rattle.std.proofs.lemmas.Result.{err_from_is_err_and}
 use Rattle.model.specs.Sessions.{State}
 use Rattle.rankings.proofs.Laws.{lawful-from}
 use Rattle.sweeper.specs.States.{state_in, image_in}
 use Rattle.sweeper.proofs.Gated.{same_rest}
-use Rattle.reading.specs.declared.faults.TextFault.{TextFault}
+use Rattle.lines.specs.declared.faults.TextFault.{TextFault}
+use Rattle.lines.specs.Position.{position_of}
+use Rattle.lines.proofs.Moving.{answered-ok, answered-err, read_from}
+use Rattle.reading.specs.declared.faults.ReadFault.{ReadFault}
 use Rattle.reading.specs.Faults.{answer_in}
-use Rattle.reading.specs.Reading.{at_line, point_in}
+use Rattle.reading.specs.Reading.{caller, Steps}
 use Rattle.reading.specs.Calls.{RunsOn}
-use Rattle.reading.proofs.Growth.{rest-joined}
-use Rattle.reading.proofs.Onward.{cut-length, on_line, on_fault, on_rest, step-stops, step_went, step-longer}
 use Rattle.reading.proofs.Answering.{told, accepts, refuses}
 use Rattle.reading.proofs.Continuing.{continues}
+use Rattle.reading.proofs.Growth.{rest-joined}
+use Rattle.reading.proofs.Stepping.{read_step, read_from-step, step-shorter, steps-longer}
 use Rattle.reading.proofs.reader.read_text.Given as given
 use Rattle.reading.proofs.reader.read_text.Goals as goal
 
@@ -25,63 +28,69 @@ runs_on g by s =
 pub returns-in_err-at_line : goal.returns-in_err-at_line
 returns-in_err-at_line g c =
     let before = g.R.Ranking.before c.args.by.now in
-    let here = point_in c.loop-before.reader c.loop-before.session in
-    let there = point_in c.take_line.new.self c.take_line.new.session in
-    let bytes = c.in-Some.field-0.before.now in
-    let e = err_from_is_err_and {Q = λ (y : TextFault). y ≡ c.in_err-at_line.field-0.0} c.from_residual.result c.from_residual.ensures.1 in
-    let f = step-stops before c.loop-before.line here there bytes c.take_line.result c.at_line.result c.in_err-at_line.field-0.0 c.take_line.ensures.steps c.at_line.ensures c.in_err-at_line.was in
-    let stop = on_fault before c.loop-before.line here c.loop-before.rest.now bytes _ c.in-Some.ensures f.0 f.1 in
-    let said = ap answer_in (e.1 ∙ ap Err e.2) ∙ ap Err f.2 in
-    let is = sym c.loop-before.invariant.0 ∙ stop ∙ (λ i. record { answer = sym said i; state = sym f.3 i }) in
-    let s = state_in c.args.session.now in
-    let u = state_in c.take_line.new.session in
     let text = c.args.text.now in
+    let s = state_in c.args.session.now in
+    let p = position_of c.loop.reader in
+    let here = state_in c.loop.session in
+    let u = state_in c.take_line.new.session in
+    let e = c.in_err-at_line.field-0.0 in
+    let r = err_from_is_err_and {Q = λ (y : TextFault ReadFault). y ≡ e} c.from_residual.result c.from_residual.ensures.1 in
+    let q = answered-err c.line.result c.take_line.result c.at_line.result e c.at_line.ensures c.in_err-at_line.was in
+    let stays = subst (λ x. Steps before p here x (position_of c.take_line.new.reader) u) q.0 c.take_line.ensures.steps in
+    let said = ap answer_in (r.1 ∙ ap Err (r.2 ∙ q.1 ∙ ap (λ k. record { line = k; fault = e.fault }) c.line.ensures)) in
+    let is = sym c.loop.invariant.0 ∙ read_from-step before p here ∙ ap (read_step before p here) stays.0 ∙ (λ i. record { answer = sym said i; state = sym stays.1.1 i }) in
     record {
       reads = is;
       told = told before s text c.from_residual.result u is;
       accepts = accepts before s text c.from_residual.result u is;
       refuses = refuses before s text c.from_residual.result u is;
       runs = runs_on g c.args.by.now s;
-      rest = rest-joined (image_in c.args.session.now) (image_in c.loop-before.session) (image_in c.take_line.new.session) c.loop-before.invariant.2 c.take_line.ensures.rest (step-longer before here there bytes c.take_line.result c.take_line.ensures.steps);
+      rest = rest-joined (image_in c.args.session.now) (image_in c.loop.session) (image_in c.take_line.new.session) c.loop.invariant.1 c.take_line.ensures.rest (steps-longer before p here (position_of c.take_line.new.reader) u c.take_line.result c.take_line.ensures.steps);
     }
 
-pub loop-before-init : goal.loop-before-init
-loop-before-init g c = (refl, omega arith, same_rest (image_in c.args.session.now))
+pub loop-init : goal.loop-init
+loop-init g c = (ap (λ x. read_from (caller (g.R.Ranking.before c.args.by.now)) x (state_in c.args.session.now)) c.new-reader.ensures, same_rest (image_in c.args.session.now))
 
-pub loop-before-smaller : goal.loop-before-smaller
-loop-before-smaller g c =
+pub loop-smaller : goal.loop-smaller
+loop-smaller g c =
     let before = g.R.Ranking.before c.args.by.now in
-    let here = point_in c.loop-before.reader c.loop-before.session in
-    omega (arith, cut-length before c.loop-before.line here c.loop-before.rest.now _ _ c.in-Some.ensures)
+    let p = position_of c.loop.reader in
+    let here = state_in c.loop.session in
+    let q = position_of c.take_line.new.reader in
+    let u = state_in c.take_line.new.session in
+    let went = answered-ok c.line.result c.take_line.result c.at_line.result c.in_ok-at_line.field-0 c.at_line.ensures c.in_ok-at_line.was ∙ ap Ok c.if-branch.true in
+    step-shorter before p here q u (subst (λ x. Steps before p here x q u) went c.take_line.ensures.steps)
 
-pub loop-before-preserved : goal.loop-before-preserved
-loop-before-preserved g c =
+pub loop-preserved : goal.loop-preserved
+loop-preserved g c =
     let before = g.R.Ranking.before c.args.by.now in
-    let here = point_in c.loop-before.reader c.loop-before.session in
-    let there = point_in c.take_line.new.self c.take_line.new.session in
-    let bytes = c.in-Some.field-0.before.now in
-    let went = step_went before c.loop-before.line here there bytes c.take_line.result c.at_line.result c.in_ok-at_line.field-0 c.take_line.ensures.steps c.at_line.ensures c.in_ok-at_line.was in
-    let next = on_line before c.loop-before.line here c.loop-before.rest.now bytes _ c.in-Some.ensures there went in
-    let long = cut-length before c.loop-before.line here c.loop-before.rest.now bytes _ c.in-Some.ensures in (
-      sym next ∙ c.loop-before.invariant.0,
-      omega (arith, long, c.loop-before.invariant.1),
-      rest-joined (image_in c.args.session.now) (image_in c.loop-before.session) (image_in c.take_line.new.session) c.loop-before.invariant.2 c.take_line.ensures.rest (step-longer before here there bytes c.take_line.result c.take_line.ensures.steps),
+    let p = position_of c.loop.reader in
+    let here = state_in c.loop.session in
+    let q = position_of c.take_line.new.reader in
+    let u = state_in c.take_line.new.session in
+    let went = answered-ok c.line.result c.take_line.result c.at_line.result c.in_ok-at_line.field-0 c.at_line.ensures c.in_ok-at_line.was ∙ ap Ok c.if-branch.true in
+    let moves = subst (λ x. Steps before p here x q u) went c.take_line.ensures.steps in (
+      sym (read_from-step before p here ∙ ap (read_step before p here) moves) ∙ c.loop.invariant.0,
+      rest-joined (image_in c.args.session.now) (image_in c.loop.session) (image_in c.take_line.new.session) c.loop.invariant.1 c.take_line.ensures.rest (steps-longer before p here q u c.take_line.result c.take_line.ensures.steps),
     )
 
 pub returns : goal.returns
 returns g c =
     let before = g.R.Ranking.before c.args.by.now in
-    let here = point_in c.loop-before.reader c.loop-before.session in
-    let said = c.at_line-2.ensures ∙ ap (at_line c.loop-before.line) c.finish.ensures in
-    let s = state_in c.args.session.now in
-    let u = state_in c.loop-before.session in
     let text = c.args.text.now in
-    let is = sym c.loop-before.invariant.0 ∙ on_rest before c.loop-before.line here c.loop-before.rest.now c.in_default.ensures ∙ (λ i. record { answer = sym said i; state = u }) in
+    let s = state_in c.args.session.now in
+    let p = position_of c.loop.reader in
+    let here = state_in c.loop.session in
+    let q = position_of c.take_line.new.reader in
+    let u = state_in c.take_line.new.session in
+    let went = answered-ok c.line.result c.take_line.result c.at_line.result c.in_ok-at_line.field-0 c.at_line.ensures c.in_ok-at_line.was ∙ ap Ok c.if-branch.false in
+    let stays = subst (λ x. Steps before p here x q u) went c.take_line.ensures.steps in
+    let is = sym c.loop.invariant.0 ∙ read_from-step before p here ∙ ap (read_step before p here) stays.0 ∙ (λ i. record { answer = Ok tt; state = sym stays.1.1 i }) in
     record {
       reads = is;
-      told = told before s text c.at_line-2.result u is;
-      accepts = accepts before s text c.at_line-2.result u is;
-      refuses = refuses before s text c.at_line-2.result u is;
+      told = told before s text (Ok tt) u is;
+      accepts = accepts before s text (Ok tt) u is;
+      refuses = refuses before s text (Ok tt) u is;
       runs = runs_on g c.args.by.now s;
-      rest = c.loop-before.invariant.2;
+      rest = rest-joined (image_in c.args.session.now) (image_in c.loop.session) (image_in c.take_line.new.session) c.loop.invariant.1 c.take_line.ensures.rest (steps-longer before p here q u c.take_line.result c.take_line.ensures.steps);
     }
