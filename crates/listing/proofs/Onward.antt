@@ -87,6 +87,21 @@ module _ (whole rest t rest' : List ℕ) (at : ℕ) (p : List ℕ) (e : ℕ) (q 
     is = o ∙ ap (λ m. over_at m t q) h.place ∙ ap (over_at (at + length h.part) t) h.is ∙ over_at-more at h.part t p;
   }
 
+-- the lines after the first next, one after another, on a page that has room for them
+module _ (lines : List Line) (next at : ℕ) (p : List ℕ) (room : length (text_of (drop next lines)) ≤ length p - at) where
+  module _ (k e : ℕ) (q : List ℕ) (sofar : Sofar (text_of (drop next lines)) (text_of (drop k lines)) at p e q) where
+    pub lines-more : (r : Option Told) → told r ≡ next_of (drop k lines) → (e' : ℕ) (q' : List ℕ) → WritesAt e (text_of (closed r)) q (Ok e') q' → Sofar (text_of (drop next lines)) (text_of (drop (k + 1) lines)) at p e' q'
+    lines-more r is e' q' w = one_more (text_of (drop next lines)) (text_of (drop k lines)) (text_of (closed r)) (text_of (drop (k + 1) lines)) at p e q sofar (text_next lines k r is) room e' q' w.0 w.2
+
+    pub lines-room : (r : Option Told) → told r ≡ next_of (drop k lines) → length q ≡ length p → (d : Short) (q' : List ℕ) → WritesAt e (text_of (closed r)) q (Err d) q' → ⊥
+    lines-room r is long d q' w =
+        omega (arith, w.1, long, room-left (text_of (drop next lines)) (text_of (drop k lines)) (text_of (closed r)) (text_of (drop (k + 1) lines)) at p e q sofar (text_next lines k r is) room)
+
+    pub lines-all : length lines ≤ k → WritesAt at (text_of (drop next lines)) p (Ok e) q
+    lines-all past =
+        let end = all_done (text_of (drop next lines)) (text_of (drop k lines)) at p e q sofar (text_end lines k past) in
+        (end.0, room, end.1)
+
 -- the last part, where the whole has room
 pub writes_more : (at : ℕ) (xs ys p q : List ℕ) (e : ℕ) (r : Result ℕ Short) (after : List ℕ) → length (xs ++ ys) ≤ length p - at → e ≡ at + length xs → q ≡ over_at at xs p → length q ≡ length p
     → WritesAt e ys q r after → WritesAt at (xs ++ ys) p r after

@@ -1,5 +1,6 @@
 -- Lists whose newest stands first, listed line by line from the oldest.
 use Rattle.std.specs.Prelude.{◌≡◌, ℕ, suc, ◌+◌, ◌<◌, ◌≤◌, true, false, cond, List, [], ◌∷◌, ◌++◌, length, drop, Some, None, Option, refl}
+use Rattle.std.specs.Option.{option_map}
 use Rattle.std.proofs.Common.{sym, ap, ◌∙◌, ⊎_elim, add-one, arith, drop_at}
 use Rattle.std.proofs.lemmas.List.{length_push, drop_all, drop-append-le}
 use Rattle.std.proofs.lemmas.Bool.{cases_eq, cases_lt, eq-eqb, ne_eqb, lt-ltb, le-ltb}
@@ -8,10 +9,6 @@ use Rattle.model.specs.Sessions.{State}
 use Rattle.model.specs.Reports.{Line, node_lines, lines_of}
 use Rattle.sweeper.specs.Reports.{Described, described_in, entry, outside}
 use Rattle.listing.specs.Sections.{next_of, node_line}
-
-abbrev pub tell : {A : Type 0} → (A → Line) → Option A → Option Line
-tell w (Some a) = Some (w a)
-tell w None = None
 
 pub next_none : (xs : List Line) (k : ℕ) → length xs ≤ k → None ≡ next_of (drop k xs)
 next_none xs k h = ap next_of (sym (drop_all k xs h))
@@ -36,14 +33,14 @@ module _ {A : Type 0} (w : ℕ → A → Line) (F : List A → List Line) (none 
       (cases_eq k (length xs))
 
   -- what stands at a number is told on the line after those before it
-  pub tells : (d : A) (xs : List A) (k : ℕ) (r : Option A) → r ≡ entry d xs (k + 1) → tell (w (k + 1)) r ≡ next_of (drop k (F xs))
+  pub tells : (d : A) (xs : List A) (k : ℕ) (r : Option A) → r ≡ entry d xs (k + 1) → option_map (w (k + 1)) r ≡ next_of (drop k (F xs))
   tells d xs k r e = ⊎_elim
       (λ (z : k < length xs).
       let inside : entry d xs (k + 1) ≡ Some (at d xs (k + 1)) = rw (ne_eqb (k + 1) 0 (λ q. omega arith), le-ltb (length xs) (k + 1) (omega arith)) refl in
-      ap (tell (w (k + 1))) (e ∙ inside) ∙ sym (at_next d xs k z ∙ ap (λ n. Some (w n (at d xs n))) (sym (add-one k))))
+      ap (option_map (w (k + 1))) (e ∙ inside) ∙ sym (at_next d xs k z ∙ ap (λ n. Some (w n (at d xs n))) (sym (add-one k))))
       (λ (z : length xs ≤ k).
       let past : entry d xs (k + 1) ≡ None = rw (ne_eqb (k + 1) 0 (λ q. omega arith), lt-ltb (length xs) (k + 1) (omega arith)) refl in
-      ap (tell (w (k + 1))) (e ∙ past) ∙ next_none (F xs) k (omega (arith, count xs)))
+      ap (option_map (w (k + 1))) (e ∙ past) ∙ next_none (F xs) k (omega (arith, count xs)))
       (cases_lt k (length xs))
 
 -- ---- the two kinds of such lists
@@ -54,14 +51,14 @@ node_more (gate x y) g = refl
 pub nodes_count : (g : Graph) → length (node_lines g) ≡ length g
 nodes_count g = count node_line node_lines refl node_more g
 
-pub nodes_tell : (g : Graph) (k : ℕ) (r : Option Node) → r ≡ entry input g (k + 1) → tell (node_line (k + 1)) r ≡ next_of (drop k (node_lines g))
+pub nodes_tell : (g : Graph) (k : ℕ) (r : Option Node) → r ≡ entry input g (k + 1) → option_map (node_line (k + 1)) r ≡ next_of (drop k (node_lines g))
 nodes_tell g k r e = tells node_line node_lines refl node_more input g k r e
 
 module _ (line : ℕ → Line) where
   pub numbers_count : (ns : List ℕ) → length (lines_of line ns) ≡ length ns
   numbers_count ns = count (λ _. line) (lines_of line) refl (λ _ _. refl) ns
 
-  pub numbers_tell : (ns : List ℕ) (k : ℕ) (r : Option ℕ) → r ≡ entry 0 ns (k + 1) → tell line r ≡ next_of (drop k (lines_of line ns))
+  pub numbers_tell : (ns : List ℕ) (k : ℕ) (r : Option ℕ) → r ≡ entry 0 ns (k + 1) → option_map line r ≡ next_of (drop k (lines_of line ns))
   numbers_tell ns k r e = tells (λ _. line) (lines_of line) refl (λ _ _. refl) 0 ns k r e
 
 -- ---- a node, of what is told of it

@@ -1,5 +1,6 @@
 -- The lines of a session, one after another.
 use Rattle.std.specs.Prelude.{ℕ, List, [], ◌∷◌, ◌++◌, drop, Some, None, Option}
+use Rattle.std.specs.Option.{option_map}
 use Rattle.model.specs.Graphs.{Node, input, gate}
 use Rattle.model.specs.Reports.{Line, «in», and, net_lines}
 use Rattle.model.specs.Sessions.{State}
@@ -13,8 +14,7 @@ node_line n input = «in» n
 node_line n (gate x y) = and x y
 
 abbrev pub told : Option Told → Option Line
-told (Some l) = Some (line_in l)
-told None = None
+told = option_map line_in
 
 -- the first line of those that are left
 abbrev pub next_of : List Line → Option Line

@@ -13,7 +13,7 @@ use crate::stage::{Declined, MapsStage, NodesStage, OutsStage, Stage, TallyStage
 use pages::{Key, Line, Short, write_line};
 use sweeper::Session;
 
-// A section that another follows.
+// A section that another follows. It is not exported, so that a stage comes only from the one before it.
 pub trait Followed: Section {
     type Next;
 

@@ -13,6 +13,7 @@ use sweeper::Session;
 #[derive(Clone, Copy)]
 pub struct Maps;
 
+#[tactic(auto, using(crate::specs::Counted::few, crate::specs::Listed::numbers_count))]
 impl Section for Maps {
     ghost lines = { λ s. lines_of mapped s.mapped };
 

@@ -27,6 +27,7 @@ fn node_line(number: u32, node: Node) -> Line
     }
 }
 
+#[tactic(auto, using(crate::specs::Listed::nodes_count))]
 impl Section for Nodes {
     ghost lines = { λ s. node_lines s.reduced };
 

@@ -13,6 +13,7 @@ use sweeper::Session;
 #[derive(Clone, Copy)]
 pub struct Outs;
 
+#[tactic(auto, using(crate::specs::Listed::numbers_count))]
 impl Section for Outs {
     ghost lines = { λ s. lines_of out s.outputs };
 

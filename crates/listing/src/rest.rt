@@ -16,7 +16,7 @@ fn length_of(line: Option<Line>) -> usize
     ensures value { result ≡ length (text_of (closed line)) }
     ensures bound { result ≤ 26 }
 {
-    line.map_or(0, |line| line.length())
+    line.map_or(0, Line::length)
 }
 
 // Writes a line, if there is one, from the place at on, and answers the place after it.
@@ -30,7 +30,7 @@ fn write_if(page: &mut [u8], at: usize, line: Option<Line>) -> Result<usize, Sho
 }
 
 impl<S: Section> Stage<S> {
-    // How long the lines are that are left.
+    // How long the lines are that are left. A loop, since no bound is found for the sum of a chain.
     fn lines_length(&self, session: &Session<'_>) -> usize
         ensures value { result ≡ length (text_of (drop self.now.next (S.lines (state_in session.now)))) }
         ensures bound { result ≤ 26 * output_limit }
@@ -50,7 +50,7 @@ impl<S: Section> Stage<S> {
         self.lines_length(session) + length_of(S::closing_line(session))
     }
 
-    // Writes the lines that are left, and answers the place after them.
+    // Writes the lines that are left, and answers the place after them. A loop, since a chain forgets the page that its closure writes to.
     fn write_lines(&self, session: &Session<'_>, page: &mut [u8]) -> Result<usize, Short>
         requires { length (text_of (drop self.now.next (S.lines (state_in session.now)))) ≤ length page.old - self.now.at }
         ensures { WritesAt self.now.at (text_of (drop self.now.next (S.lines (state_in session.now)))) page.old result page.new }

@@ -1,5 +1,6 @@
 // The lines of one kind in a listing.
 ghost use Rattle.std.specs.Prelude.{◌≡◌, ◌≤◌, List, length, drop};
+ghost use Rattle.std.specs.Option.{option_map};
 ghost use Rattle.model.specs.Sessions.{State, output_limit};
 ghost use Rattle.model.specs.Reports.{Line as Written};
 ghost use Rattle.sweeper.specs.States.{state_in};
@@ -7,7 +8,6 @@ ghost use Rattle.pages.specs.Lines.{numbered};
 ghost use Rattle.sweeper.specs.Answers.{numbered as edge_number};
 ghost use Rattle.sweeper.specs.declared.session.Session.{Session as Tables};
 ghost use Rattle.listing.specs.Sections.{told, next_of, closed};
-ghost use Rattle.listing.specs.Listed.{tell};
 
 use cuts::Edge;
 use pages::{Key, Line};
@@ -28,7 +28,7 @@ pub trait Section {
     fn line(session: &Session<'_>, k: usize) -> Option<Line>
         ensures { told result ≡ next_of (drop k (lines (state_in session.now))) };
 
-    // The line that closes this kind, if one does.
+    // The line that closes this kind, if one does. No body of None here: a trait's body is proved for any `closing`.
     fn closing_line(session: &Session<'_>) -> Option<Line>
         ensures { closed result ≡ closing (state_in session.now) };
 
@@ -38,7 +38,7 @@ pub trait Section {
 
 // The line of an edge, if there is one.
 pub(crate) fn edge_line(key: Key, edge: Option<Edge>) -> Option<Line>
-    ensures { told result ≡ tell (numbered key) (edge_number edge) }
+    ensures { told result ≡ option_map (numbered key) (edge_number edge) }
 {
     edge.map(|edge| Line::Number(key, u32::from(edge.number())))
 }

@@ -75,7 +75,7 @@ impl<S: Section + Drop> Stage<S> {
         Ok(true)
     }
 
-    // The same, where the stage is moved through the call.
+    // The same, where the stage is moved through the call. A match: the stage goes on in both arms, and a closure of map_err would take it.
     pub fn line_moved(
         self,
         session: &Session<'_>,

@@ -28,6 +28,7 @@ pub enum Line {
 }
 
 impl Key {
+    // The word of the key: a match and no table by number, so that each word stands beside its key.
     pub(crate) fn text(self) -> &'static [u8]
         ensures { result.now ≡ key_text self }
     {

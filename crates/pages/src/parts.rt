@@ -44,7 +44,7 @@ impl Part for &[u8] {
     }
 }
 
-// Writes the digits of n to the front of out, and answers how many: by recursion, the first digit first.
+// Writes the digits of n to the front of out, and answers how many: by recursion, since the first digit is found last.
 fn put_number(out: &mut [u8], n: u32) -> usize
     requires { length (decimal n) ≤ length out.old }
     ensures value { result ≡ length (decimal n) }

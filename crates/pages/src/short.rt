@@ -2,7 +2,7 @@
 ghost use Rattle.std.specs.Prelude.{◌≡◌, ◌-◌, ◌<◌, ◌≤◌, length, MatchResult};
 ghost use Rattle.model.specs.Sessions.{too_short, refusal_number, refusal_value};
 
-// The length that was wanted.
+// The length that was wanted. It is a struct, since there is one cause, and prints nothing, since no program shows it.
 #[derive(Clone, Copy)]
 pub struct Short {
     pub wanted: usize,
