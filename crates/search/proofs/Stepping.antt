@@ -21,5 +21,5 @@ abbrev pub row_step : SlotTable CutKey → Bool → Fanin → ℕ → Cut → Li
 row_step keys s y limit a = along (pair_step keys s y limit a) (cuts_of y)
 
 -- a list with no candidate yet
-pub none-listed : (d : DistinctList Row) → d.count ≡ 0 → listed d ≡ []
-none-listed d e = ap (λ n. map meaning (take n d.places.now)) e
+pub none-listed : (d : DistinctList Row) → d.list.count ≡ 0 → listed d ≡ []
+none-listed d e = ap (λ n. map meaning (take n d.list.places.now)) e

@@ -1,5 +1,5 @@
 -- What a search over pairs of cuts comes to, in the words of the model.
-use Rattle.std.specs.Prelude.{ℕ, List, map, length, take, Some, None, Option}
+use Rattle.std.specs.Prelude.{ℕ, List, map, Some, None, Option}
 use Rattle.model.specs.Edges.{edge}
 use Rattle.model.specs.Cuts.{Cut as Meant}
 use Rattle.model.specs.Search.{Decision, folded, merged, Search, ended, candidates}
@@ -7,6 +7,7 @@ use Rattle.cuts.specs.Meaning.{meaning}
 use Rattle.cuts.specs.Keys.{key_meaning}
 use Rattle.cuts.specs.declared.cut.Cut.{Cut}
 use Rattle.cuts.specs.declared.key.CutKey.{CutKey}
+use Rattle.lent.specs.Lists.{room, listed as items}
 use Rattle.lookup.specs.Hash.{hashed_slot}
 use Rattle.lookup.specs.Slots.{found}
 use Rattle.lookup.specs.declared.distinct.DistinctList.{DistinctList}
@@ -29,7 +30,7 @@ look_in t = found key_meaning hashed_slot t.slots.now
 
 -- how many candidates a list has places for, and the candidates in it
 abbrev pub places_of : DistinctList Cut → ℕ
-places_of d = length d.places.now
+places_of d = room d.list
 
 abbrev pub listed : DistinctList Cut → List Meant
-listed d = map meaning (take d.count d.places.now)
+listed d = map meaning (items d.list)

@@ -8,10 +8,10 @@ ghost use Rattle.search.specs.Leaves.{leaf_at};
 ghost use Rattle.search.specs.Fanins.{most, cuts_of, limits_of};
 ghost use Rattle.search.specs.Decisions.{decision_of, kept_by};
 
+use crate::consider::Search;
 use crate::decision::Decision;
 use crate::fanin::Fanin;
 use crate::keeping::keep_first;
-use crate::pairs::search_cuts;
 use crate::rows::ReducedRow;
 use crate::sizes::PAIRS;
 use cuts::{Cut, CutKey};
@@ -36,9 +36,13 @@ pub fn decide<R: Ranking>(
     ensures rest { drop (kept_by result) kept.new ≡ drop (kept_by result) kept.old }
 {
     let mut places = [Cut::trivial(0); PAIRS];
-    let mut found = DistinctList::new(&mut places);
-    match search_cuts(keys, x, y, limit, &mut found) {
+    let mut search = Search {
+        keys,
+        limit,
+        found: DistinctList::new(&mut places),
+    };
+    match search.search_cuts(x, y) {
         Some(edge) => Decision::Existing(edge),
-        None => Decision::Made(keep_first(by, rows, found.items(), kept)),
+        None => Decision::Made(keep_first(by, rows, search.found.items(), kept)),
     }
 }

@@ -10,7 +10,7 @@ use crate::leaf_facts::candidate;
 use crate::rows::ReducedRow;
 use crate::sizes::KEPT;
 use cuts::Cut;
-use rankings::{Candidate, Ranking, Shortlist};
+use rankings::{Candidate, Ranking, Shortlist, offer};
 
 /// Writes the cuts of the candidates to the first places, and answers how many.
 fn write_cuts(candidates: &[Candidate<Cut>], places: &mut [Cut]) -> usize
@@ -41,7 +41,7 @@ pub(crate) fn keep_first<R: Ranking>(
     let mut places = [candidate(rows, &Cut::trivial(0)); KEPT];
     let mut list = Shortlist::new(&mut places[..room]);
     for cut in cuts {
-        list.offer(by, candidate(rows, cut));
+        offer(&mut list, by, candidate(rows, cut));
     }
-    write_cuts(list.candidates(), kept)
+    write_cuts(list.items(), kept)
 }

@@ -8,18 +8,14 @@ use crate::rows::ReducedRow;
 use cuts::{Cut, POSITIONS};
 use rankings::{Candidate, CutFacts, LeafFacts};
 
-const NO_FACTS: LeafFacts = LeafFacts { height: 0, uses: 0 };
-
 /// The facts of a leaf, which stand in the row one below its number; a leaf with no row has height 0 and no uses.
 fn facts_of_leaf(rows: &[ReducedRow], leaf: u16) -> LeafFacts
     ensures { leaf_of result ≡ leaf_at rows.now leaf }
 {
-    let node = leaf as usize;
-    if node == 0 || node > rows.len() {
-        return NO_FACTS;
-    }
-    let row = rows[node - 1];
-    row.facts
+    let Some(i) = usize::from(leaf).checked_sub(1) else {
+        return ReducedRow::EMPTY.facts;
+    };
+    rows.get(i).map_or(ReducedRow::EMPTY.facts, |row| row.facts)
 }
 
 /// The facts of the leaves of a cut, in order.
@@ -27,14 +23,11 @@ fn facts_of_cut(rows: &[ReducedRow], cut: &Cut) -> CutFacts
     ensures { facts_of result ≡ map (leaf_at rows.now) (meaning cut.now).leaves }
 {
     let leaves = cut.leaves();
-    let mut facts = [NO_FACTS; POSITIONS];
+    let mut facts = [ReducedRow::EMPTY.facts; POSITIONS];
     for (i, leaf) in leaves.iter().enumerate() {
         facts[i] = facts_of_leaf(rows, *leaf);
     }
-    match CutFacts::new(&facts[..leaves.len()]) {
-        Some(all) => all,
-        None => unreachable(),
-    }
+    CutFacts::new(&facts[..leaves.len()]).unwrap()
 }
 
 /// A cut beside its facts, as rankings want it.

@@ -16,3 +16,12 @@ pub struct ReducedRow {
     pub facts: LeafFacts,
     pub kept: usize,
 }
+
+impl ReducedRow {
+    /// The row of an input that nothing uses yet.
+    pub const EMPTY: ReducedRow = ReducedRow {
+        node: Node::Input,
+        facts: LeafFacts { height: 0, uses: 0 },
+        kept: 0,
+    };
+}

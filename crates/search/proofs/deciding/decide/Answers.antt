@@ -17,7 +17,7 @@ returns-in-Some g c =
     let x = c.args.x.now in
     let y = c.args.y.now in
     let join = joined positions (min c.args.limit positions) (sign_of x.edge.number) (sign_of y.edge.number) in
-    let e = c.in-Some.ensures ∙ ap (search_all positions (look_in c.args.keys.now) join (cuts_of x) (cuts_of y)) (none-listed c.new-found.result c.new-found.ensures.empty) in
+    let e = c.in-Some.ensures ∙ ap (search_all positions (look_in c.args.keys.now) join (cuts_of x) (cuts_of y)) (none-listed c.new.result c.new.ensures.empty) in
     record {
       decision = ap (chosen (min (length c.args.kept.now) most) (by_leaves before (leaf_at c.args.rows.now))) e;
       many = omega arith;
@@ -32,7 +32,7 @@ returns-in-None g c =
     let x = c.args.x.now in
     let y = c.args.y.now in
     let join = joined positions (min c.args.limit positions) (sign_of x.edge.number) (sign_of y.edge.number) in
-    let e = c.in-None.ensures ∙ ap (search_all positions (look_in c.args.keys.now) join (cuts_of x) (cuts_of y)) (none-listed c.new-found.result c.new-found.ensures.empty) in
+    let e = c.in-None.ensures ∙ ap (search_all positions (look_in c.args.keys.now) join (cuts_of x) (cuts_of y)) (none-listed c.new.result c.new.ensures.empty) in
     record {
       decision = ap made (c.keep_first.ensures.is ∙ ap (λ l. first_by (by_leaves before leaf) n (map meaning l)) c.items.ensures) ∙ ap (chosen n (by_leaves before leaf)) e;
       many = c.keep_first.ensures.many;

@@ -1,5 +1,5 @@
 use Rattle.std.proofs.Common.{◌≡◌, [], drop}
-use Rattle.rankings.specs.Shortlists.{listed, room}
+use Rattle.lent.specs.Lists.{listed, room}
 use Rattle.search.specs.Leaves.{leaf_at}
 use Rattle.search.proofs.Chosen.{to_come}
 use Rattle.search.proofs.keeping.keep_first.Given as goal

@@ -1,8 +1,12 @@
-use Rattle.std.proofs.Common.{◌≡◌, ◌<◌, [], ◌∷◌, ◌++◌, map, length, take, sym, ap, ◌∙◌, arith, length-set}
+use Rattle.std.proofs.Common.{◌≡◌, ◌<◌, Option, Some, None, MatchOption, IsSome, refl, [], ◌∷◌, ◌++◌, map, length, take, sym, ap, ◌∙◌, arith, length-set}
 use Rattle.std.proofs.lemmas.List.{take_more_set, map_push, map_more, length-map, length-take-le, take_all}
 use Rattle.rankings.specs.Facts.{leaf_of}
 use Rattle.search.specs.Leaves.{leaf_at}
 use Rattle.search.proofs.leaf_facts.facts_of_cut.Goals as goal
+
+some : {A P : Type 0} (Q : A → Type 0) (o : Option A) → MatchOption o (P → ⊥) Q → P → IsSome o
+some Q (Some f) h p = refl
+some Q None h p = absurd (h p)
 
 pub loop-i-preserved : goal.loop-i-preserved
 loop-i-preserved c =
@@ -20,20 +24,20 @@ loop-i-preserved c =
           ∙ sym (map_more at leaves i 0 (omega arith)),
     )
 
-pub unreachable-requires : goal.unreachable-requires
-unreachable-requires c =
+pub unwrap-requires : goal.unwrap-requires
+unwrap-requires c =
     let facts = c.loop-i.facts in
     let count = c.leaves-leaves.ensures.count in
     let n = length c.leaves-leaves.result.now in
     let few = c.args.cut.now.leaves.few in
     let long = length-map (take n facts) leaf_of in
     let all = length-take-le n facts (omega (arith, c.loop-i.invariant.0)) in
-    c.in-None.ensures (omega (arith, c.args.cut.now.some), omega arith)
+    some _ c.new.result c.new.ensures (omega (arith, c.args.cut.now.some), omega arith)
 
 pub returns : goal.returns
 returns c =
     let leaves = c.leaves-leaves.result.now in
     let at = leaf_at c.args.rows.now in
     let e : c.loop-i.i ≡ length leaves = omega arith in
-    c.in-Some.ensures ∙ ap (λ n. map leaf_of (take n c.loop-i.facts)) (sym e) ∙ c.loop-i.invariant.1
+    (rw c.unwrap.ensures at c.new.ensures) ∙ ap (λ n. map leaf_of (take n c.loop-i.facts)) (sym e) ∙ c.loop-i.invariant.1
     ∙ ap (map at) (take_all c.loop-i.i leaves c.loop-i-test.false ∙ c.leaves-leaves.ensures.list)
