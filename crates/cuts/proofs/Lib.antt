@@ -6,3 +6,4 @@ pub mod Same
 pub mod Keyed
 pub mod Formed
 pub mod Fronts
+pub mod Shrinking

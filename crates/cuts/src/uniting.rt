@@ -10,6 +10,17 @@ use crate::sizes::POSITIONS;
 /// Above every node.
 const NO_LEAF: u32 = 1 << 16;
 
+/// The first of some leaves, or `NO_LEAF` if there is none.
+fn lowest(leaves: &[u16]) -> u32
+    ensures front { result ≡ front (2 ^ 16) leaves.now 0 }
+    ensures less { 0 < length leaves.now → result < 2 ^ 16 }
+{
+    match leaves {
+        [leaf, ..] => u32::from(*leaf),
+        [] => NO_LEAF,
+    }
+}
+
 impl Leaves {
     /// One leaf.
     pub fn one(node: u16) -> Leaves
@@ -37,18 +48,6 @@ impl Leaves {
         self.count as usize
     }
 
-    /// The leaf at a place, or `NO_LEAF` past the last.
-    fn leaf_at(&self, place: usize) -> u32
-        ensures front { result ≡ front (2 ^ 16) (leaves_of self.now) place }
-        ensures less { place < length (leaves_of self.now) → result < 2 ^ 16 }
-    {
-        if place < self.len() {
-            self.nodes[place] as u32
-        } else {
-            NO_LEAF
-        }
-    }
-
     /// The leaves of both in rising number, or none if they are more than the limit; a limit above `POSITIONS` is `POSITIONS`.
     pub fn unite(&self, other: &Leaves, limit: usize) -> Option<Leaves>
         ensures { listed result ≡ united (min limit positions) (leaves_of self.now) (leaves_of other.now) }
@@ -56,15 +55,15 @@ impl Leaves {
         let most = limit.min(POSITIONS);
         let mut nodes = [0; POSITIONS];
         let mut count = 0;
-        let (mut i, mut j) = (0, 0);
-        while i < self.len() || j < other.len() {
+        let (mut a, mut b) = (self.as_slice(), other.as_slice());
+        while !a.is_empty() || !b.is_empty() {
             if count == most {
                 return None;
             }
-            let (x, y) = (self.leaf_at(i), other.leaf_at(j));
+            let (x, y) = (lowest(a), lowest(b));
             nodes[count] = x.min(y) as u16;
-            i += (x <= y) as usize;
-            j += (y <= x) as usize;
+            a = &a[(x <= y) as usize..];
+            b = &b[(y <= x) as usize..];
             count += 1;
         }
         Some(Leaves {

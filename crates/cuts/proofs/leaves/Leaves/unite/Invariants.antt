@@ -1,10 +1,18 @@
-use Rattle.std.proofs.Common.{◌≡◌, ◌-◌, length}
+use Rattle.std.proofs.Common.{◌≡◌, ◌-◌, length, drop}
 use Rattle.model.proofs.Uniting.{Merged}
 use Rattle.cuts.specs.Meaning.{leaves_of}
 use Rattle.cuts.proofs.leaves.Leaves.unite.Given as goal
 
-abbrev pub invariant-loop-i : goal.invariant-loop-i
-invariant-loop-i l = Merged l.most (leaves_of l.self) (leaves_of l.other) l.i l.j l.count l.nodes × (length l.nodes ≡ 4)
+abbrev pub invariant-loop-a : goal.invariant-loop-a
+invariant-loop-a l =
+    let xs = leaves_of l.self in
+    let ys = leaves_of l.other in
+    record {
+      merged : Merged l.most xs ys (length xs - length l.a) (length ys - length l.b) l.count l.nodes;
+      a : l.a ≡ drop (length xs - length l.a) xs;
+      b : l.b ≡ drop (length ys - length l.b) ys;
+      places : length l.nodes ≡ 4;
+    }
 
-abbrev pub decreases-loop-i : goal.decreases-loop-i
-decreases-loop-i l = l.most - l.count
+abbrev pub decreases-loop-a : goal.decreases-loop-a
+decreases-loop-a l = l.most - l.count
