@@ -9,51 +9,56 @@ mod worked;
 
 use longer::LONGER;
 use playing::play;
-use std::io;
+use std::{fmt, io};
 use step::Script;
 use worked::WORKED;
 
 // Sessions that agree in every answer, and answers that agree, of all.
 #[derive(Clone, Copy)]
 struct Agreement {
-    sessions: usize,
     agreed: usize,
+    sessions: usize,
+    answers_agreed: usize,
     answers: usize,
 }
 
+impl Agreement {
+    // One session more.
+    fn with(self, agreed: usize, answers: usize) -> Agreement {
+        Agreement {
+            agreed: self.agreed.saturating_add(usize::from(agreed == answers)),
+            sessions: self.sessions.saturating_add(1),
+            answers_agreed: self.answers_agreed.saturating_add(agreed),
+            answers: self.answers.saturating_add(answers),
+        }
+    }
+}
+
+impl fmt::Display for Agreement {
+    fn fmt<W: fmt::Write>(&self, f: &mut fmt::Formatter<W>) -> fmt::Result {
+        write!(f, "agreed={} of {}\n", self.agreed, self.sessions)?;
+        write!(
+            f,
+            "their answers: agreed={} of {}",
+            self.answers_agreed, self.answers
+        )
+    }
+}
+
 fn compare(scripts: &[Script]) -> Agreement {
-    let mut sum = Agreement {
-        sessions: 0,
+    let none = Agreement {
         agreed: 0,
+        sessions: 0,
+        answers_agreed: 0,
         answers: 0,
     };
-    for script in scripts {
-        let agreed = play(script);
-        if agreed == script.steps.len() {
-            sum.sessions = sum.sessions.saturating_add(1);
-        }
-        sum.agreed = sum.agreed.saturating_add(agreed);
-        sum.answers = sum.answers.saturating_add(script.steps.len());
-    }
-    sum
+    scripts.iter().fold(
+        none,
+        |sum, script| sum.with(play(script), script.steps.len()),
+    )
 }
 
 fn main(rt: HostRuntime) -> io::Result<()> {
-    let small = compare(&WORKED);
-    println!(rt;
-        "small sessions: agreed={} of {}",
-        small.sessions,
-        WORKED.len()
-    )?;
-    println!(rt;
-        "their answers: agreed={} of {}",
-        small.agreed, small.answers
-    )?;
-    let long = compare(&LONGER);
-    println!(rt;
-        "longer sessions: agreed={} of {}",
-        long.sessions,
-        LONGER.len()
-    )?;
-    println!(rt; "their answers: agreed={} of {}", long.agreed, long.answers)
+    println!(rt; "small sessions: {}", compare(&WORKED))?;
+    println!(rt; "longer sessions: {}", compare(&LONGER))
 }

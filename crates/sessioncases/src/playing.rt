@@ -1,11 +1,10 @@
 // Plays a script on a session of its own and counts the answers that are as written.
-use crate::step::{By, Call, Script, Step, Want};
-use buyer::Flat;
+use crate::step::{Answer, Call, Script, Step};
 use cuts::{Cut, CutKey, Edge};
 use lookup::{FaninPair, Slot};
-use rankings::{ByGateLeaves, ByHeight, ByUses, LeafFacts, Ranking};
+use rankings::LeafFacts;
 use search::{Node, ReducedRow};
-use sweeper::{Outcome, Refusal, Session, SourceRow};
+use sweeper::{Refusal, Session, SourceRow};
 
 // The lengths of the longest tables that a script may ask for; a longer table is cut to them.
 const ROWS: usize = 256;
@@ -18,52 +17,24 @@ const NO_ROW: ReducedRow = ReducedRow {
     kept: 0,
 };
 
-fn refused(r: Refusal) -> Want {
-    Want::Refused(r.number(), r.value())
-}
-
-fn edge(answer: Result<Edge, Refusal>) -> Want {
-    match answer {
-        Ok(e) => Want::Edge(e.number()),
-        Err(r) => refused(r),
-    }
-}
-
-fn sweep<R: Ranking>(session: &mut Session, by: &R, a: u16, b: u16) -> Want {
-    match session.gate(by, Edge::new(a), Edge::new(b)) {
-        Ok(swept) => match swept.outcome {
-            Outcome::Made => Want::Made(swept.edge.number()),
-            Outcome::Folded => Want::Folded(swept.edge.number()),
-            Outcome::Shared => Want::Shared(swept.edge.number()),
-            Outcome::Merged => Want::Merged(swept.edge.number()),
-        },
-        Err(r) => refused(r),
-    }
-}
-
-fn answer(session: &mut Session, call: Call) -> Want {
-    match call {
-        Call::Input => match session.input() {
-            Ok(node) => Want::Node(node),
-            Err(r) => refused(r),
-        },
-        Call::Gate(By::Height, a, b) => sweep(session, &ByHeight, a, b),
-        Call::Gate(By::GateLeaves, a, b) => sweep(session, &ByGateLeaves, a, b),
-        Call::Gate(By::Uses, a, b) => sweep(session, &ByUses, a, b),
-        Call::Gate(By::Nothing, a, b) => sweep(session, &Flat, a, b),
-        Call::Output(e) => edge(session.output(Edge::new(e))),
-        Call::Map(e) => edge(session.map(Edge::new(e))),
-    }
+fn answer(session: &mut Session, call: Call) -> Result<Answer, Refusal> {
+    let told = match call {
+        Call::Input => Answer::Node(session.input()?),
+        Call::Gate(by, a, b) => {
+            let swept = by.gate(session, Edge::new(a), Edge::new(b))?;
+            Answer::Swept(swept.outcome, swept.edge.number())
+        }
+        Call::Output(e) => Answer::Edge(session.output(Edge::new(e))?.number()),
+        Call::Map(e) => Answer::Edge(session.map(Edge::new(e))?.number()),
+    };
+    Ok(told)
 }
 
 fn agreeing(session: &mut Session, steps: &[Step]) -> usize {
-    let mut agreed = 0usize;
-    for step in steps {
-        if answer(session, step.0) == step.1 {
-            agreed = agreed.saturating_add(1);
-        }
-    }
-    agreed
+    steps
+        .iter()
+        .filter(|step| answer(session, step.0) == step.1)
+        .count()
 }
 
 // How many answers of a script agree.

@@ -1,35 +1,24 @@
 // One call of a session with the answer that it must get.
-
-#[derive(Clone, Copy)]
-pub enum By {
-    Height,
-    GateLeaves,
-    Uses,
-    Nothing,
-}
+use ranked::RankedBy;
+use sweeper::{Outcome, Refusal};
 
 #[derive(Clone, Copy)]
 pub enum Call {
     Input,
-    Gate(By, u16, u16),
+    Gate(RankedBy, u16, u16),
     Output(u16),
     Map(u16),
 }
 
 #[derive(Clone, Copy, PartialEq, Eq)]
-pub enum Want {
+pub enum Answer {
     Node(u16),
-    Made(u16),
-    Folded(u16),
-    Shared(u16),
-    Merged(u16),
+    Swept(Outcome, u16),
     Edge(u16),
-    // The number and the value of the refusal.
-    Refused(u8, usize),
 }
 
 #[derive(Clone, Copy)]
-pub struct Step(pub Call, pub Want);
+pub struct Step(pub Call, pub Result<Answer, Refusal>);
 
 // The lengths of the six tables, and the calls.
 #[derive(Clone, Copy)]

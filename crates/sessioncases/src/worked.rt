@@ -1,8 +1,10 @@
 // Small sessions with gates ranked by height, each for one kind of answer.
-use crate::step::By::Height;
+use crate::step::Answer::{Edge, Node, Swept};
 use crate::step::Call::{Gate, Input, Map};
-use crate::step::Want::{Edge, Folded, Made, Merged, Node, Refused, Shared};
 use crate::step::{Script, Step};
+use ranked::RankedBy::Height;
+use sweeper::Outcome::{Folded, Made, Merged, Shared};
+use sweeper::Refusal::{AtCapacity, NoNode};
 
 pub const WORKED: [Script; 13] = [
     // No room for a node, but the constant still maps.
@@ -13,7 +15,7 @@ pub const WORKED: [Script; 13] = [
         pairs: 0,
         keys: 0,
         outputs: 0,
-        steps: &[Step(Map(1), Edge(1)), Step(Input, Refused(2, 0))],
+        steps: &[Step(Map(1), Ok(Edge(1))), Step(Input, Err(AtCapacity(0)))],
     },
     // Complementary fanins.
     Script {
@@ -24,9 +26,9 @@ pub const WORKED: [Script; 13] = [
         keys: 32,
         outputs: 8,
         steps: &[
-            Step(Input, Node(1)),
-            Step(Input, Node(2)),
-            Step(Gate(Height, 2, 3), Folded(0)),
+            Step(Input, Ok(Node(1))),
+            Step(Input, Ok(Node(2))),
+            Step(Gate(Height, 2, 3), Ok(Swept(Folded, 0))),
         ],
     },
     // A true fanin.
@@ -38,9 +40,9 @@ pub const WORKED: [Script; 13] = [
         keys: 32,
         outputs: 8,
         steps: &[
-            Step(Input, Node(1)),
-            Step(Input, Node(2)),
-            Step(Gate(Height, 2, 1), Folded(2)),
+            Step(Input, Ok(Node(1))),
+            Step(Input, Ok(Node(2))),
+            Step(Gate(Height, 2, 1), Ok(Swept(Folded, 2))),
         ],
     },
     // A gate of two inputs.
@@ -52,9 +54,9 @@ pub const WORKED: [Script; 13] = [
         keys: 32,
         outputs: 8,
         steps: &[
-            Step(Input, Node(1)),
-            Step(Input, Node(2)),
-            Step(Gate(Height, 2, 5), Made(6)),
+            Step(Input, Ok(Node(1))),
+            Step(Input, Ok(Node(2))),
+            Step(Gate(Height, 2, 5), Ok(Swept(Made, 6))),
         ],
     },
     // Swapped fanins.
@@ -66,10 +68,10 @@ pub const WORKED: [Script; 13] = [
         keys: 32,
         outputs: 8,
         steps: &[
-            Step(Input, Node(1)),
-            Step(Input, Node(2)),
-            Step(Gate(Height, 2, 5), Made(6)),
-            Step(Gate(Height, 5, 2), Shared(6)),
+            Step(Input, Ok(Node(1))),
+            Step(Input, Ok(Node(2))),
+            Step(Gate(Height, 2, 5), Ok(Swept(Made, 6))),
+            Step(Gate(Height, 5, 2), Ok(Swept(Shared, 6))),
         ],
     },
     // An absorbed leaf.
@@ -81,10 +83,10 @@ pub const WORKED: [Script; 13] = [
         keys: 32,
         outputs: 8,
         steps: &[
-            Step(Input, Node(1)),
-            Step(Input, Node(2)),
-            Step(Gate(Height, 3, 5), Made(6)),
-            Step(Gate(Height, 2, 7), Folded(2)),
+            Step(Input, Ok(Node(1))),
+            Step(Input, Ok(Node(2))),
+            Step(Gate(Height, 3, 5), Ok(Swept(Made, 6))),
+            Step(Gate(Height, 2, 7), Ok(Swept(Folded, 2))),
         ],
     },
     // A contradiction.
@@ -96,10 +98,10 @@ pub const WORKED: [Script; 13] = [
         keys: 32,
         outputs: 8,
         steps: &[
-            Step(Input, Node(1)),
-            Step(Input, Node(2)),
-            Step(Gate(Height, 3, 5), Made(6)),
-            Step(Gate(Height, 2, 6), Folded(0)),
+            Step(Input, Ok(Node(1))),
+            Step(Input, Ok(Node(2))),
+            Step(Gate(Height, 3, 5), Ok(Swept(Made, 6))),
+            Step(Gate(Height, 2, 6), Ok(Swept(Folded, 0))),
         ],
     },
     // An unknown second fanin.
@@ -111,9 +113,9 @@ pub const WORKED: [Script; 13] = [
         keys: 32,
         outputs: 8,
         steps: &[
-            Step(Input, Node(1)),
-            Step(Input, Node(2)),
-            Step(Gate(Height, 2, 6), Refused(1, 1)),
+            Step(Input, Ok(Node(1))),
+            Step(Input, Ok(Node(2))),
+            Step(Gate(Height, 2, 6), Err(NoNode(1))),
         ],
     },
     // An equivalence in two forms.
@@ -125,14 +127,14 @@ pub const WORKED: [Script; 13] = [
         keys: 32,
         outputs: 8,
         steps: &[
-            Step(Input, Node(1)),
-            Step(Input, Node(2)),
-            Step(Gate(Height, 2, 5), Made(6)),
-            Step(Gate(Height, 3, 4), Made(8)),
-            Step(Gate(Height, 7, 9), Made(10)),
-            Step(Gate(Height, 3, 5), Made(12)),
-            Step(Gate(Height, 2, 4), Made(14)),
-            Step(Gate(Height, 13, 15), Merged(11)),
+            Step(Input, Ok(Node(1))),
+            Step(Input, Ok(Node(2))),
+            Step(Gate(Height, 2, 5), Ok(Swept(Made, 6))),
+            Step(Gate(Height, 3, 4), Ok(Swept(Made, 8))),
+            Step(Gate(Height, 7, 9), Ok(Swept(Made, 10))),
+            Step(Gate(Height, 3, 5), Ok(Swept(Made, 12))),
+            Step(Gate(Height, 2, 4), Ok(Swept(Made, 14))),
+            Step(Gate(Height, 13, 15), Ok(Swept(Merged, 11))),
         ],
     },
     // The same, and where the last gate maps to.
@@ -144,16 +146,16 @@ pub const WORKED: [Script; 13] = [
         keys: 32,
         outputs: 8,
         steps: &[
-            Step(Input, Node(1)),
-            Step(Input, Node(2)),
-            Step(Gate(Height, 2, 5), Made(6)),
-            Step(Gate(Height, 3, 4), Made(8)),
-            Step(Gate(Height, 7, 9), Made(10)),
-            Step(Gate(Height, 3, 5), Made(12)),
-            Step(Gate(Height, 2, 4), Made(14)),
-            Step(Gate(Height, 13, 15), Merged(11)),
-            Step(Map(16), Edge(11)),
-            Step(Map(17), Edge(10)),
+            Step(Input, Ok(Node(1))),
+            Step(Input, Ok(Node(2))),
+            Step(Gate(Height, 2, 5), Ok(Swept(Made, 6))),
+            Step(Gate(Height, 3, 4), Ok(Swept(Made, 8))),
+            Step(Gate(Height, 7, 9), Ok(Swept(Made, 10))),
+            Step(Gate(Height, 3, 5), Ok(Swept(Made, 12))),
+            Step(Gate(Height, 2, 4), Ok(Swept(Made, 14))),
+            Step(Gate(Height, 13, 15), Ok(Swept(Merged, 11))),
+            Step(Map(16), Ok(Edge(11))),
+            Step(Map(17), Ok(Edge(10))),
         ],
     },
     // A regrouped product of four inputs.
@@ -165,15 +167,15 @@ pub const WORKED: [Script; 13] = [
         keys: 36,
         outputs: 9,
         steps: &[
-            Step(Input, Node(1)),
-            Step(Input, Node(2)),
-            Step(Input, Node(3)),
-            Step(Input, Node(4)),
-            Step(Gate(Height, 2, 4), Made(10)),
-            Step(Gate(Height, 6, 8), Made(12)),
-            Step(Gate(Height, 10, 12), Made(14)),
-            Step(Gate(Height, 6, 10), Made(16)),
-            Step(Gate(Height, 8, 16), Merged(14)),
+            Step(Input, Ok(Node(1))),
+            Step(Input, Ok(Node(2))),
+            Step(Input, Ok(Node(3))),
+            Step(Input, Ok(Node(4))),
+            Step(Gate(Height, 2, 4), Ok(Swept(Made, 10))),
+            Step(Gate(Height, 6, 8), Ok(Swept(Made, 12))),
+            Step(Gate(Height, 10, 12), Ok(Swept(Made, 14))),
+            Step(Gate(Height, 6, 10), Ok(Swept(Made, 16))),
+            Step(Gate(Height, 8, 16), Ok(Swept(Merged, 14))),
         ],
     },
     // A product of five inputs.
@@ -185,15 +187,15 @@ pub const WORKED: [Script; 13] = [
         keys: 36,
         outputs: 9,
         steps: &[
-            Step(Input, Node(1)),
-            Step(Input, Node(2)),
-            Step(Input, Node(3)),
-            Step(Input, Node(4)),
-            Step(Input, Node(5)),
-            Step(Gate(Height, 2, 4), Made(12)),
-            Step(Gate(Height, 6, 12), Made(14)),
-            Step(Gate(Height, 8, 10), Made(16)),
-            Step(Gate(Height, 14, 16), Made(18)),
+            Step(Input, Ok(Node(1))),
+            Step(Input, Ok(Node(2))),
+            Step(Input, Ok(Node(3))),
+            Step(Input, Ok(Node(4))),
+            Step(Input, Ok(Node(5))),
+            Step(Gate(Height, 2, 4), Ok(Swept(Made, 12))),
+            Step(Gate(Height, 6, 12), Ok(Swept(Made, 14))),
+            Step(Gate(Height, 8, 10), Ok(Swept(Made, 16))),
+            Step(Gate(Height, 14, 16), Ok(Swept(Made, 18))),
         ],
     },
     // The equivalence, its other form first.
@@ -205,14 +207,14 @@ pub const WORKED: [Script; 13] = [
         keys: 32,
         outputs: 8,
         steps: &[
-            Step(Input, Node(1)),
-            Step(Input, Node(2)),
-            Step(Gate(Height, 3, 5), Made(6)),
-            Step(Gate(Height, 2, 4), Made(8)),
-            Step(Gate(Height, 7, 9), Made(10)),
-            Step(Gate(Height, 2, 5), Made(12)),
-            Step(Gate(Height, 3, 4), Made(14)),
-            Step(Gate(Height, 13, 15), Merged(11)),
+            Step(Input, Ok(Node(1))),
+            Step(Input, Ok(Node(2))),
+            Step(Gate(Height, 3, 5), Ok(Swept(Made, 6))),
+            Step(Gate(Height, 2, 4), Ok(Swept(Made, 8))),
+            Step(Gate(Height, 7, 9), Ok(Swept(Made, 10))),
+            Step(Gate(Height, 2, 5), Ok(Swept(Made, 12))),
+            Step(Gate(Height, 3, 4), Ok(Swept(Made, 14))),
+            Step(Gate(Height, 13, 15), Ok(Swept(Merged, 11))),
         ],
     },
 ];
