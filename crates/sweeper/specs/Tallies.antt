@@ -1,5 +1,5 @@
 -- The tally's rows, one for each outcome.
-use Rattle.std.specs.Prelude.{ℕ, ◌+◌, slice_index_or, slice_set}
+use Rattle.std.specs.Prelude.{ℕ, ◌+◌, List, codes, slice_index_or, slice_set}
 use Rattle.model.specs.Sessions.{was_made, was_folded, was_shared, was_merged}
 use Rattle.model.specs.Sessions as model
 use Rattle.sweeper.specs.declared.tally.Outcome.{Outcome}
@@ -12,6 +12,13 @@ row_of Made = 0
 row_of Folded = 1
 row_of Shared = 2
 row_of Merged = 3
+
+-- as it is printed
+abbrev pub word_of : Outcome → List ℕ
+word_of Made = codes "made"
+word_of Folded = codes "folded"
+word_of Shared = codes "shared"
+word_of Merged = codes "merged"
 
 abbrev pub no_row : TallyRow
 no_row = record { count = 0 }

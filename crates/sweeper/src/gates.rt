@@ -14,7 +14,6 @@ ghost use Rattle.sweeper.specs.Answers.{told_swept, swept_in, Gates, GateExtends
 use crate::accepting::Swept;
 use crate::core_state::Core;
 use crate::folding::fold;
-use crate::ordering::in_order;
 use crate::refusal::Refusal;
 use crate::session::Session;
 use crate::tally::Outcome;
@@ -101,7 +100,6 @@ impl<'a> Session<'a> {
         if self.core.sources >= self.core.capacity {
             return Err(Refusal::AtCapacity(self.core.capacity));
         }
-        let (x, y) = in_order(p, q);
-        Ok(self.sweep(by, a, b, x, y))
+        Ok(self.sweep(by, a, b, p.min(q), p.max(q)))
     }
 }

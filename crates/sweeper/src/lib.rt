@@ -11,7 +11,6 @@ mod gates;
 mod growing;
 mod inputs;
 mod opening;
-mod ordering;
 mod refusal;
 mod reports;
 mod rows;

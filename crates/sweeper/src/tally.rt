@@ -1,7 +1,9 @@
 // How gate calls came out.
-ghost use Rattle.std.specs.Prelude.{◌≡◌, ◌-◌, ◌^◌, ◌<◌, length};
+ghost use Rattle.std.specs.Prelude.{◌≡◌, ◌-◌, ◌^◌, ◌<◌, length, Some};
 ghost use Rattle.model.specs.Sessions.{no_tally};
-ghost use Rattle.sweeper.specs.Tallies.{count_of, raised, tallied};
+ghost use Rattle.sweeper.specs.Tallies.{count_of, raised, tallied, word_of};
+
+use std::fmt;
 
 // What a gate call came to.
 #[derive(Clone, Copy, PartialEq, Eq, Debug)]
@@ -24,14 +26,16 @@ pub struct Tally {
     rows: [TallyRow; 4],
 }
 
-fn row_of(outcome: Outcome) -> usize
-    ensures { result ≡ Rattle.sweeper.specs.Tallies.row_of outcome }
-{
-    match outcome {
-        Outcome::Made => 0,
-        Outcome::Folded => 1,
-        Outcome::Shared => 2,
-        Outcome::Merged => 3,
+impl fmt::Display for Outcome {
+    ghost output = { λ o. Some (word_of o) };
+
+    fn fmt<W: fmt::Write>(&self, f: &mut fmt::Formatter<W>) -> fmt::Result {
+        f.write_str(match self {
+            Outcome::Made => "made",
+            Outcome::Folded => "folded",
+            Outcome::Shared => "shared",
+            Outcome::Merged => "merged",
+        })
     }
 }
 
@@ -49,7 +53,7 @@ impl Tally {
     pub fn count(&self, outcome: Outcome) -> u32
         ensures { result ≡ count_of self.now outcome }
     {
-        self.rows[row_of(outcome)].count
+        self.rows[outcome as usize].count
     }
 
     // One call more of this outcome.
@@ -57,6 +61,6 @@ impl Tally {
         requires { count_of self.old outcome < 2 ^ 32 - 1 }
         ensures { self.new ≡ raised self.old outcome }
     {
-        self.rows[row_of(outcome)].count += 1;
+        self.rows[outcome as usize].count += 1;
     }
 }

@@ -39,12 +39,14 @@ sweep-requires g c =
     let i = image c.args.self.now.core in
     let p = mapped_parts i c.args.a 0 (Ok c.in_ok-p.p) c.in_ok-p.ensures in
     let q = mapped_parts i c.args.b 1 (Ok c.in_ok-q.q) c.in_ok-q.ensures in
+    let low : c.min.result.number ≡ min c.in_ok-p.p.number c.in_ok-q.q.number = search rules in
+    let high : c.max.result.number ≡ max c.in_ok-p.p.number c.in_ok-q.q.number = search rules in
     record {
       first = p.0;
       second = q.0;
       room = c.if-self.false;
-      low = c.in_order.ensures.low ∙ ap₂ min p.1 q.1;
-      high = c.in_order.ensures.high ∙ ap₂ max p.1 q.1;
+      low = low ∙ ap₂ min p.1 q.1;
+      high = high ∙ ap₂ max p.1 q.1;
     }
 
 pub returns : goal.returns
