@@ -6,7 +6,7 @@ ghost use Rattle.model.specs.Sessions.{positions};
 use crate::leaves::Leaves;
 use crate::sizes::Table;
 
-#[derive(Clone, Copy, Debug)]
+#[derive(Clone, Copy, Eq, Debug)]
 pub struct Cut {
     pub(crate) leaves: Leaves,
     pub(crate) table: Table,

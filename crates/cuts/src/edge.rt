@@ -13,6 +13,7 @@ impl Edge {
     /// The complemented edge of the constant.
     pub const TRUE: Edge = Edge { number: 1 };
 
+    // `new`, `number` and `of` and no `From` or `TryFrom`: contracts and callers name them, and a second name for each would say no more.
     /// The edge of a number.
     pub fn new(number: u16) -> Edge
         ensures { result.number ≡ number }

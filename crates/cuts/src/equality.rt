@@ -8,6 +8,7 @@ ghost use Rattle.cuts.specs.Meaning.{leaves_of, meaning, leaves_eq, cut_eq};
 use crate::cut::Cut;
 use crate::leaves::Leaves;
 
+// Not derived: each `eq` promises `exact`, that equal values mean the same and no others do, and a derive has no clause of ours.
 impl PartialEq for Leaves {
     ghost eq = { leaves_eq };
 
@@ -32,12 +33,4 @@ impl PartialEq for Cut {
     {
         self.table == other.table && self.leaves == other.leaves
     }
-}
-
-impl Eq for Leaves {
-    ghost laws = { on_equiv leaves_of nat_list_eq_equiv };
-}
-
-impl Eq for Cut {
-    ghost laws = { and_equiv (on_equiv (λ c. c.table) nat_eq_equiv) (on_equiv (λ c. leaves_of c.leaves) nat_list_eq_equiv) };
 }

@@ -4,7 +4,7 @@ ghost use Rattle.model.specs.Tables.{bit_at};
 
 use crate::cut::Cut;
 
-#[derive(Clone, Copy, Debug)]
+#[derive(Clone, Copy, Eq, Debug)]
 pub struct CutKey {
     pub(crate) cut: Cut,
     ghost plain: { bit_at cut.table 0 ≡ false },

@@ -55,6 +55,7 @@ impl CutKey {
     }
 }
 
+// Not derived, for the clause `exact`, as of cuts.
 impl PartialEq for CutKey {
     ghost eq = { λ x y. pointwise nat_eq (key_meaning x) (key_meaning y) };
 
@@ -66,8 +67,4 @@ impl PartialEq for CutKey {
     {
         self.cut == other.cut
     }
-}
-
-impl Eq for CutKey {
-    ghost laws = { on_equiv key_meaning nat_list_eq_equiv };
 }

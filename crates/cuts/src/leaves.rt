@@ -5,7 +5,8 @@ ghost use Rattle.model.specs.Sessions.{positions};
 
 use crate::sizes::POSITIONS;
 
-#[derive(Clone, Copy, Debug)]
+// An array with its count: a copy of it lies in lent tables, and a gate call has no heap for a `Vec`.
+#[derive(Clone, Copy, Eq, Debug)]
 pub struct Leaves {
     pub(crate) nodes: [u16; POSITIONS],
     pub(crate) count: u8,

@@ -62,6 +62,7 @@ impl Leaves {
             }
             let (x, y) = (lowest(a), lowest(b));
             nodes[count] = x.min(y) as u16;
+            // No branch on which list the leaf is from: that is not to be foretold, and a wrong guess costs more than the step.
             a = &a[(x <= y) as usize..];
             b = &b[(y <= x) as usize..];
             count += 1;
