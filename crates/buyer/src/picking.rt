@@ -7,7 +7,7 @@ ghost use Rattle.buyer.specs.Picks.{numbered, first_of_three};
 use crate::flat::Flat;
 use rankings::{Candidate, CutFacts, Ranking, Shortlist, choose, offer};
 
-// The three cuts, numbered from 0 in the order in which they were found.
+// The three cuts, numbered from 0 in the order in which they were found: a literal, since each has a name of its own.
 fn numbered(a: CutFacts, b: CutFacts, c: CutFacts) -> [Candidate<u8>; 3]
     ensures { result ≡ numbered a b c }
 {

@@ -13,7 +13,7 @@ pub struct LeafFacts {
     pub uses: u16,
 }
 
-// The first `count` of `leaves` are the cut's own, in order.
+// The first `count` of `leaves` are the cut's own, in order: a value that is copied, and no heap.
 #[derive(Clone, Copy)]
 pub struct CutFacts {
     count: usize,

@@ -69,7 +69,7 @@ impl Ranking for ByGateLeaves {
     }
 }
 
-// The smaller sum of shares first.
+// The smaller sum of shares first. No one generic kind with `ByGateLeaves`: the marks and the proofs of `inputs` differ.
 #[derive(Clone, Copy)]
 pub struct ByUses;
 

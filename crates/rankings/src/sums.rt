@@ -7,6 +7,7 @@ ghost use Rattle.rankings.specs.Facts.{leaf_of, facts_of};
 use crate::facts::{CutFacts, LeafFacts};
 
 // A number of each leaf, small enough that sums and their products with a leaf count fit.
+// A trait and no closure: the bound is then proved once for each number, and not at each call of `sum`.
 pub(crate) trait Weight {
     ghost weight: { Leaf → ℕ };
 
