@@ -11,7 +11,7 @@ use Rattle.lookup.specs.Entries.{Stands}
 use Rattle.lookup.specs.Hash.{hashed_slot}
 use Rattle.lookup.specs.Pairs.{pair_meaning}
 use Rattle.lookup.specs.declared.fanin_pair.FaninPair.{FaninPair}
-use Rattle.lookup.specs.declared.slot.Slot.{Slot}
+use Rattle.lookup.specs.Slots.{Slot}
 use Rattle.search.specs.declared.rows.ReducedRow.{ReducedRow}
 use Rattle.sweeper.specs.declared.rows.SourceRow.{SourceRow}
 use Rattle.sweeper.specs.declared.tally.Tally.{Tally}

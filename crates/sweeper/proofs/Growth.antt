@@ -17,7 +17,7 @@ use Rattle.cuts.specs.declared.edge.Edge.{Edge}
 use Rattle.cuts.specs.Meaning.{meaning}
 use Rattle.cuts.specs.Keys.{key_meaning}
 use Rattle.cuts.specs.declared.key.CutKey.{CutKey}
-use Rattle.lookup.specs.declared.slot.Slot.{Slot}
+use Rattle.lookup.specs.Slots.{Slot}
 use Rattle.lookup.specs.declared.fanin_pair.FaninPair.{FaninPair}
 use Rattle.lookup.specs.Pairs.{pair_meaning}
 use Rattle.lookup.specs.Hash.{hashed_slot}

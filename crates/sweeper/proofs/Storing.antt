@@ -13,9 +13,8 @@ use Rattle.cuts.specs.declared.cut.Cut.{Cut}
 use Rattle.cuts.specs.declared.key.CutKey.{CutKey}
 use Rattle.cuts.specs.Meaning.{meaning}
 use Rattle.cuts.specs.Keys.{key_meaning}
-use Rattle.lookup.specs.declared.slot.Slot.{Slot}
 use Rattle.lookup.specs.Hash.{hashed_slot}
-use Rattle.lookup.specs.Slots.{probed, found, slots_after}
+use Rattle.lookup.specs.Slots.{Slot, probed, found, slots_after}
 use Rattle.lookup.proofs.Standing.{found-stays}
 use Rattle.lookup.specs.Entries.{Stands, with_entry, taken}
 use Rattle.sweeper.specs.Tables.{stored, look_with, Enters}

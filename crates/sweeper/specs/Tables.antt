@@ -14,7 +14,7 @@ use Rattle.cuts.specs.Meaning.{meaning}
 use Rattle.cuts.specs.Keys.{key_meaning}
 use Rattle.lookup.specs.Pairs.{pair_meaning}
 use Rattle.lookup.specs.Hash.{hashed_slot}
-use Rattle.lookup.specs.Slots.{found}
+use Rattle.lookup.specs.Slots.{Slot, found}
 use Rattle.lookup.specs.Entries.{Tidy, taken, Stands}
 use Rattle.search.specs.declared.rows.Node.{Node}
 use Rattle.search.specs.declared.rows.Node.TheVariants.{Input, Gate}
@@ -25,7 +25,6 @@ use Rattle.search.specs.Leaves.{no_row}
 use Rattle.sweeper.specs.declared.core_state.Core.{Core}
 use Rattle.sweeper.specs.declared.tables.Tables.{Tables}
 use Rattle.cuts.specs.declared.key.CutKey.{CutKey}
-use Rattle.lookup.specs.declared.slot.Slot.{Slot}
 use Rattle.lookup.specs.declared.fanin_pair.FaninPair.{FaninPair}
 use Rattle.sweeper.specs.declared.tally.Tally.{Tally}
 use Rattle.sweeper.specs.declared.tally.Outcome.{Outcome}

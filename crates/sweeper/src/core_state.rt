@@ -1,4 +1,5 @@
-// The lent tables and how much of them is in use.
+// The lent tables and how much of them is in use. `Session` has the calls; here are the steps in the midst of which its facts do not hold.
+// The counts stand beside their slices, since rows in use are also changed in place, which a list over lent places does not offer.
 use crate::rows::SourceRow;
 use crate::tally::Tally;
 use cuts::{Cut, CutKey, Edge};

@@ -62,6 +62,7 @@ impl<'a> Core<'a> {
 }
 
 impl<'a> Session<'a> {
+    // Only `sweep` and `make` take a source gate's fanins and the mapped ones together, so the four have no struct of their own.
     // The mapped fanins, the smaller first, folded, looked up as a pair, and then by their cuts.
     fn sweep<R: Ranking>(&mut self, by: &R, a: Edge, b: Edge, x: Edge, y: Edge) -> Swept
         requires first { node_of a.number ≤ self.old.core.sources }
@@ -69,7 +70,7 @@ impl<'a> Session<'a> {
         requires room { self.old.core.sources < self.old.core.capacity }
         requires low { x.number ≡ min (map_edge (state_of (image self.old.core)) a.number) (map_edge (state_of (image self.old.core)) b.number) }
         requires high { y.number ≡ max (map_edge (state_of (image self.old.core)) a.number) (map_edge (state_of (image self.old.core)) b.number) }
-        ensures gates { Gates (R.Ranking.before by.now) R.Ranking.mark (state_of (image self.old.core)) a.number b.number (state_of (image self.new.core)) (swept_in result) }
+        ensures gates { Gates (R.Ranking.before by.now) R.Ranking.INPUTS_FIRST (state_of (image self.old.core)) a.number b.number (state_of (image self.new.core)) (swept_in result) }
         ensures rest { Rest (image self.old.core) (image self.new.core) }
     {
         if let Some(edge) = fold(x, y) {
@@ -91,7 +92,7 @@ impl<'a> Session<'a> {
 
     // Sweeps a gate by a ranking of this call's own.
     pub fn gate<R: Ranking>(&mut self, by: &R, a: Edge, b: Edge) -> Result<Swept, Refusal>
-        ensures runs { GateExtends (R.Ranking.before by.now) R.Ranking.mark (state_of (image self.old.core)) a.number b.number (state_of (image self.new.core)) (told_swept result) }
+        ensures runs { GateExtends (R.Ranking.before by.now) R.Ranking.INPUTS_FIRST (state_of (image self.old.core)) a.number b.number (state_of (image self.new.core)) (told_swept result) }
         ensures rest { Rest (image self.old.core) (image self.new.core) }
         ensures refused { Refused result (image self.new.core ≡ image self.old.core) }
     {

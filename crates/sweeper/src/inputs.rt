@@ -9,7 +9,6 @@ use crate::refusal::Refusal;
 use crate::rows::SourceRow;
 use crate::session::Session;
 use cuts::Edge;
-use rankings::LeafFacts;
 use search::{Node, ReducedRow};
 
 impl<'a> Session<'a> {
@@ -26,11 +25,7 @@ impl<'a> Session<'a> {
         }
         let node = core.nodes;
         let mapped = Edge::new(2 * (node as u16 + 1));
-        core.reduced[node] = ReducedRow {
-            node: Node::Input,
-            facts: LeafFacts { height: 0, uses: 0 },
-            kept: 0,
-        };
+        core.reduced[node] = ReducedRow::EMPTY;
         core.source[at] = SourceRow {
             node: Node::Input,
             mapped,

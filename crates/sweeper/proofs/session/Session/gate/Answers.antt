@@ -9,7 +9,7 @@ use Rattle.sweeper.proofs.session.Session.gate.Goals as goal
 pub returns-in_err-p : goal.returns-in_err-p
 returns-in_err-p g c =
     let m = g.met.R.Ranking in
-    let law = lawful-from g.R.Ranking.before g.R.Ranking.mark m.irreflexive m.transitive m.ties m.inputs c.args.by.now in
+    let law = lawful-from g.R.Ranking.before g.R.Ranking.INPUTS_FIRST m.irreflexive m.transitive m.ties m.inputs c.args.by.now in
     let i = image c.args.self.now.core in
     let p = mapped_parts i c.args.a 0 (Err c.in_err-p.field-0.0) c.in_err-p.ensures in
     let is : c.from_residual.result ≡ Err c.in_err-p.field-0.0 = search rules in
@@ -18,7 +18,7 @@ returns-in_err-p g c =
 pub returns-in_err-q : goal.returns-in_err-q
 returns-in_err-q g c =
     let m = g.met.R.Ranking in
-    let law = lawful-from g.R.Ranking.before g.R.Ranking.mark m.irreflexive m.transitive m.ties m.inputs c.args.by.now in
+    let law = lawful-from g.R.Ranking.before g.R.Ranking.INPUTS_FIRST m.irreflexive m.transitive m.ties m.inputs c.args.by.now in
     let i = image c.args.self.now.core in
     let p = mapped_parts i c.args.a 0 (Ok c.in_ok-p.p) c.in_ok-p.ensures in
     let q = mapped_parts i c.args.b 1 (Err c.in_err-q.field-0.0) c.in_err-q.ensures in
@@ -28,7 +28,7 @@ returns-in_err-q g c =
 pub returns-then-self : goal.returns-then-self
 returns-then-self g c =
     let m = g.met.R.Ranking in
-    let law = lawful-from g.R.Ranking.before g.R.Ranking.mark m.irreflexive m.transitive m.ties m.inputs c.args.by.now in
+    let law = lawful-from g.R.Ranking.before g.R.Ranking.INPUTS_FIRST m.irreflexive m.transitive m.ties m.inputs c.args.by.now in
     let i = image c.args.self.now.core in
     let p = mapped_parts i c.args.a 0 (Ok c.in_ok-p.p) c.in_ok-p.ensures in
     let q = mapped_parts i c.args.b 1 (Ok c.in_ok-q.q) c.in_ok-q.ensures in

@@ -19,8 +19,8 @@ pub invariant_of-self : goal.invariant_of-self
 invariant_of-self g c =
     let m = g.met.R.Ranking in
     let before = g.R.Ranking.before c.args.by.now in
-    let law = lawful-from g.R.Ranking.before g.R.Ranking.mark m.irreflexive m.transitive m.ties m.inputs c.args.by.now in
-    let r : Ranking positions = record { before = before; mark = g.R.Ranking.mark; lawful = law } in
+    let law = lawful-from g.R.Ranking.before g.R.Ranking.INPUTS_FIRST m.irreflexive m.transitive m.ties m.inputs c.args.by.now in
+    let r : Ranking positions = record { before = before; mark = g.R.Ranking.INPUTS_FIRST; lawful = law } in
     let i = image c.args.self.now.core in
     let s = c.args.self.now.sound in
     let a = c.args.a in
@@ -38,8 +38,8 @@ pub returns-in-Some-clause-gates : goal.returns-in-Some-clause-gates
 returns-in-Some-clause-gates g c =
     let m = g.met.R.Ranking in
     let before = g.R.Ranking.before c.args.by.now in
-    let law = lawful-from g.R.Ranking.before g.R.Ranking.mark m.irreflexive m.transitive m.ties m.inputs c.args.by.now in
-    let r : Ranking positions = record { before = before; mark = g.R.Ranking.mark; lawful = law } in
+    let law = lawful-from g.R.Ranking.before g.R.Ranking.INPUTS_FIRST m.irreflexive m.transitive m.ties m.inputs c.args.by.now in
+    let r : Ranking positions = record { before = before; mark = g.R.Ranking.INPUTS_FIRST; lawful = law } in
     let i = image c.args.self.now.core in
     let s = c.args.self.now.sound in
     let a = c.args.a in
@@ -60,8 +60,8 @@ pub invariant_of-self-in-Some-find : goal.invariant_of-self-in-Some-find
 invariant_of-self-in-Some-find g c =
     let m = g.met.R.Ranking in
     let before = g.R.Ranking.before c.args.by.now in
-    let law = lawful-from g.R.Ranking.before g.R.Ranking.mark m.irreflexive m.transitive m.ties m.inputs c.args.by.now in
-    let r : Ranking positions = record { before = before; mark = g.R.Ranking.mark; lawful = law } in
+    let law = lawful-from g.R.Ranking.before g.R.Ranking.INPUTS_FIRST m.irreflexive m.transitive m.ties m.inputs c.args.by.now in
+    let r : Ranking positions = record { before = before; mark = g.R.Ranking.INPUTS_FIRST; lawful = law } in
     let i = image c.args.self.now.core in
     let s = c.args.self.now.sound in
     let a = c.args.a in
@@ -81,8 +81,8 @@ pub returns-in-Some-find-clause-gates : goal.returns-in-Some-find-clause-gates
 returns-in-Some-find-clause-gates g c =
     let m = g.met.R.Ranking in
     let before = g.R.Ranking.before c.args.by.now in
-    let law = lawful-from g.R.Ranking.before g.R.Ranking.mark m.irreflexive m.transitive m.ties m.inputs c.args.by.now in
-    let r : Ranking positions = record { before = before; mark = g.R.Ranking.mark; lawful = law } in
+    let law = lawful-from g.R.Ranking.before g.R.Ranking.INPUTS_FIRST m.irreflexive m.transitive m.ties m.inputs c.args.by.now in
+    let r : Ranking positions = record { before = before; mark = g.R.Ranking.INPUTS_FIRST; lawful = law } in
     let i = image c.args.self.now.core in
     let s = c.args.self.now.sound in
     let a = c.args.a in
@@ -117,8 +117,8 @@ pub invariant_of-self-in-Existing : goal.invariant_of-self-in-Existing
 invariant_of-self-in-Existing g c =
     let m = g.met.R.Ranking in
     let before = g.R.Ranking.before c.args.by.now in
-    let law = lawful-from g.R.Ranking.before g.R.Ranking.mark m.irreflexive m.transitive m.ties m.inputs c.args.by.now in
-    let r : Ranking positions = record { before = before; mark = g.R.Ranking.mark; lawful = law } in
+    let law = lawful-from g.R.Ranking.before g.R.Ranking.INPUTS_FIRST m.irreflexive m.transitive m.ties m.inputs c.args.by.now in
+    let r : Ranking positions = record { before = before; mark = g.R.Ranking.INPUTS_FIRST; lawful = law } in
     let i = image c.args.self.now.core in
     let s = c.args.self.now.sound in
     let a = c.args.a in
@@ -138,8 +138,8 @@ pub returns-in-Existing-clause-gates : goal.returns-in-Existing-clause-gates
 returns-in-Existing-clause-gates g c =
     let m = g.met.R.Ranking in
     let before = g.R.Ranking.before c.args.by.now in
-    let law = lawful-from g.R.Ranking.before g.R.Ranking.mark m.irreflexive m.transitive m.ties m.inputs c.args.by.now in
-    let r : Ranking positions = record { before = before; mark = g.R.Ranking.mark; lawful = law } in
+    let law = lawful-from g.R.Ranking.before g.R.Ranking.INPUTS_FIRST m.irreflexive m.transitive m.ties m.inputs c.args.by.now in
+    let r : Ranking positions = record { before = before; mark = g.R.Ranking.INPUTS_FIRST; lawful = law } in
     let i = image c.args.self.now.core in
     let s = c.args.self.now.sound in
     let a = c.args.a in
@@ -175,8 +175,8 @@ pub invariant_of-self-in-Made : goal.invariant_of-self-in-Made
 invariant_of-self-in-Made g c =
     let m = g.met.R.Ranking in
     let before = g.R.Ranking.before c.args.by.now in
-    let law = lawful-from g.R.Ranking.before g.R.Ranking.mark m.irreflexive m.transitive m.ties m.inputs c.args.by.now in
-    let r : Ranking positions = record { before = before; mark = g.R.Ranking.mark; lawful = law } in
+    let law = lawful-from g.R.Ranking.before g.R.Ranking.INPUTS_FIRST m.irreflexive m.transitive m.ties m.inputs c.args.by.now in
+    let r : Ranking positions = record { before = before; mark = g.R.Ranking.INPUTS_FIRST; lawful = law } in
     let i = image c.args.self.now.core in
     let s = c.args.self.now.sound in
     let a = c.args.a in
@@ -196,8 +196,8 @@ pub returns-in-Made-clause-gates : goal.returns-in-Made-clause-gates
 returns-in-Made-clause-gates g c =
     let m = g.met.R.Ranking in
     let before = g.R.Ranking.before c.args.by.now in
-    let law = lawful-from g.R.Ranking.before g.R.Ranking.mark m.irreflexive m.transitive m.ties m.inputs c.args.by.now in
-    let r : Ranking positions = record { before = before; mark = g.R.Ranking.mark; lawful = law } in
+    let law = lawful-from g.R.Ranking.before g.R.Ranking.INPUTS_FIRST m.irreflexive m.transitive m.ties m.inputs c.args.by.now in
+    let r : Ranking positions = record { before = before; mark = g.R.Ranking.INPUTS_FIRST; lawful = law } in
     let i = image c.args.self.now.core in
     let s = c.args.self.now.sound in
     let a = c.args.a in
