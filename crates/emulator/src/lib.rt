@@ -11,11 +11,9 @@ ghost use Rattle.emulator.specs.Loading.{Loads, Loaded};
 use buyer::{ByHighest, Flat};
 use cuts::{Cut, Edge};
 use evaluation::{Findings, Side, audit, walk};
-use lookup::Slot;
-use rankings::LeafFacts;
-use search::{KEPT, Node, ReducedRow};
+use search::{KEPT, ReducedRow};
 use signals::Patterns;
-use sweeper::{Session, SourceRow};
+use sweeper::{Session, SourceRow, Tables};
 
 // As many nodes as the design has.
 const NODES: usize = 5;
@@ -26,13 +24,6 @@ const OUTPUTS: usize = 1;
 
 // A place for each node and for the constant.
 const PLACES: usize = NODES + 1;
-
-// A row to fill a table with.
-const NO_ROW: ReducedRow = ReducedRow {
-    node: Node::Input,
-    facts: LeafFacts { height: 0, uses: 0 },
-    kept: 0,
-};
 
 // The exclusive-nor of two inputs as an output, evaluated on all four patterns.
 fn load_into(session: &mut Session<'_>) -> Findings
@@ -55,19 +46,19 @@ fn load_into(session: &mut Session<'_>) -> Findings
 pub fn load_design() -> Findings
     ensures { Loaded result }
 {
-    let mut source = [SourceRow::empty(); NODES];
-    let mut reduced = [NO_ROW; NODES];
+    let mut source = [SourceRow::EMPTY; NODES];
+    let mut reduced = [ReducedRow::EMPTY; NODES];
     let mut cuts = [Cut::trivial(0); CUTS];
-    let mut pairs = [Slot::Free; NODES];
-    let mut keys = [Slot::Free; CUTS];
+    let mut pairs = [None; NODES];
+    let mut keys = [None; CUTS];
     let mut outputs = [Edge::FALSE; OUTPUTS];
-    let mut session = Session::open(
-        &mut source,
-        &mut reduced,
-        &mut cuts,
-        &mut pairs,
-        &mut keys,
-        &mut outputs,
-    );
+    let mut session = Session::open(Tables {
+        source: &mut source,
+        reduced: &mut reduced,
+        cuts: &mut cuts,
+        pairs: &mut pairs,
+        keys: &mut keys,
+        outputs: &mut outputs,
+    });
     load_into(&mut session)
 }

@@ -6,7 +6,6 @@ use Rattle.sweeper.specs.declared.session.Session.{Session}
 use Rattle.sweeper.specs.States.{image_in, state_in}
 use Rattle.sweeper.specs.Tables.{Image, Sound, state_of, node_in, no_source, no_reduced, no_edge}
 use Rattle.sweeper.proofs.Newest.{newest-length}
-use Rattle.sweeper.proofs.Facts.{facts}
 
 pub record Few (s : State) : Type 0 where
   pub source : length s.source ≤ node_limit
@@ -28,4 +27,4 @@ few_in c s =
     }
 
 pub few : (s : Session) → Few (state_in s)
-few s = few_in (image_in s) (facts (image_in s) s.sound)
+few s = few_in (image_in s) s.sound

@@ -8,12 +8,11 @@ ghost use Rattle.netsweep.specs.Sweeping.{refused_by, no_room, Sweeps, Answers};
 
 use cuts::{Cut, Edge};
 use listing::write_report;
-use lookup::Slot;
 use pages::Short;
-use rankings::{ByHeight, LeafFacts};
+use rankings::ByHeight;
 use reading::{TextFault, read_text};
-use search::{Node, ReducedRow};
-use sweeper::{Session, SourceRow};
+use search::ReducedRow;
+use sweeper::{Session, SourceRow, Tables};
 
 // The longest text that is taken.
 const LONGEST: usize = 16384;
@@ -28,13 +27,6 @@ const PAIR_SLOTS: usize = 512;
 const KEY_SLOTS: usize = 2048;
 
 const OUTPUTS: usize = 4096;
-
-// A row to fill a table with.
-const NO_ROW: ReducedRow = ReducedRow {
-    node: Node::Input,
-    facts: LeafFacts { height: 0, uses: 0 },
-    kept: 0,
-};
 
 // Why no report is written: the number of the refusal, and the line, or 0 for the text as a whole.
 #[derive(Clone, Copy)]
@@ -69,20 +61,20 @@ impl From<Short> for Refusal {
 fn sweep_short(text: &[u8], page: &mut [u8]) -> Result<usize, Refusal>
     ensures { Sweeps text.now page.old result page.new }
 {
-    let mut source = [SourceRow::empty(); NODES];
-    let mut reduced = [NO_ROW; NODES];
+    let mut source = [SourceRow::EMPTY; NODES];
+    let mut reduced = [ReducedRow::EMPTY; NODES];
     let mut cuts = [Cut::trivial(0); CUTS];
-    let mut pairs = [Slot::Free; PAIR_SLOTS];
-    let mut keys = [Slot::Free; KEY_SLOTS];
+    let mut pairs = [None; PAIR_SLOTS];
+    let mut keys = [None; KEY_SLOTS];
     let mut outputs = [Edge::FALSE; OUTPUTS];
-    let mut session = Session::open(
-        &mut source,
-        &mut reduced,
-        &mut cuts,
-        &mut pairs,
-        &mut keys,
-        &mut outputs,
-    );
+    let mut session = Session::open(Tables {
+        source: &mut source,
+        reduced: &mut reduced,
+        cuts: &mut cuts,
+        pairs: &mut pairs,
+        keys: &mut keys,
+        outputs: &mut outputs,
+    });
     read_text(&mut session, &ByHeight, text)?;
     Ok(write_report(&session, page)?)
 }

@@ -66,7 +66,7 @@ pub fn read_text<R: Ranking>(
     ensures told { Told (R.Ranking.before by.now) (state_in session.old) text.now (answer_in result) (state_in session.new) }
     ensures accepts { (u : State) → Follows (R.Ranking.before by.now) (state_in session.old) text.now u → (result ≡ Ok tt) × (state_in session.new ≡ u) }
     ensures refuses { (e : Stop) (u : State) → Refused (R.Ranking.before by.now) (state_in session.old) text.now e u → (answer_in result ≡ Err e) × (state_in session.new ≡ u) }
-    ensures runs { RunsOn (R.Ranking.before by.now) R.Ranking.mark (state_in session.old) }
+    ensures runs { RunsOn (R.Ranking.before by.now) R.Ranking.INPUTS_FIRST (state_in session.old) }
     ensures rest { Rest (image_in session.old) (image_in session.new) }
 {
     let mut reader = Reader::new(text);

@@ -3,8 +3,7 @@ use crate::calls::Lengths;
 use crate::memory::OutOfMemory;
 use cuts::{Cut, CutKey, Edge};
 use lookup::{FaninPair, Slot};
-use rankings::LeafFacts;
-use search::{Node, ReducedRow};
+use search::ReducedRow;
 use std::alloc::Global;
 use sweeper::{Session, SourceRow};
 
@@ -18,15 +17,6 @@ pub(crate) struct Tables {
     outputs: Vec<Edge>,
 }
 
-// A session may find anything in its tables.
-fn any_row() -> ReducedRow {
-    ReducedRow {
-        node: Node::Input,
-        facts: LeafFacts { height: 0, uses: 0 },
-        kept: 0,
-    }
-}
-
 pub(crate) fn filled<T: Copy>(heap: Global, row: T, length: usize) -> Result<Vec<T>, OutOfMemory> {
     let mut rows = Vec::new(heap);
     for _ in 0..length {
@@ -38,23 +28,23 @@ pub(crate) fn filled<T: Copy>(heap: Global, row: T, length: usize) -> Result<Vec
 impl Tables {
     pub(crate) fn new(heap: Global, lengths: &Lengths) -> Result<Tables, OutOfMemory> {
         Ok(Tables {
-            source: filled(heap, SourceRow::empty(), lengths.source)?,
-            reduced: filled(heap, any_row(), lengths.reduced)?,
+            source: filled(heap, SourceRow::EMPTY, lengths.source)?,
+            reduced: filled(heap, ReducedRow::EMPTY, lengths.reduced)?,
             cuts: filled(heap, Cut::trivial(0), lengths.cuts)?,
-            pairs: filled(heap, Slot::Free, lengths.pairs)?,
-            keys: filled(heap, Slot::Free, lengths.keys)?,
+            pairs: filled(heap, None, lengths.pairs)?,
+            keys: filled(heap, None, lengths.keys)?,
             outputs: filled(heap, Edge::new(0), lengths.outputs)?,
         })
     }
 
     pub(crate) fn open(&mut self) -> Session<'_> {
-        Session::open(
-            self.source.as_mut_slice(),
-            self.reduced.as_mut_slice(),
-            self.cuts.as_mut_slice(),
-            self.pairs.as_mut_slice(),
-            self.keys.as_mut_slice(),
-            self.outputs.as_mut_slice(),
-        )
+        Session::open(sweeper::Tables {
+            source: self.source.as_mut_slice(),
+            reduced: self.reduced.as_mut_slice(),
+            cuts: self.cuts.as_mut_slice(),
+            pairs: self.pairs.as_mut_slice(),
+            keys: self.keys.as_mut_slice(),
+            outputs: self.outputs.as_mut_slice(),
+        })
     }
 }

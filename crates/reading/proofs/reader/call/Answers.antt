@@ -28,7 +28,7 @@ returns-in_err-gate-in-Gate-clause-calls g c =
     let f = c.in_err-gate-in-Gate.field-0.0 in
     let told = c.in_err-gate-in-Gate.ensures in
     let r = c.from_residual-in_err-gate-in-Gate.result in
-    let ranking : Ranking positions = record { before = before; mark = g.R.Ranking.mark; lawful = told.runs.lawful } in
+    let ranking : Ranking positions = record { before = before; mark = g.R.Ranking.INPUTS_FIRST; lawful = told.runs.lawful } in
     subst (λ l. Becomes (called before s l) s r u) (sym c.in-Gate.is)
     (refused-called before s u (Gate c.in-Gate.a c.in-Gate.b) r f c.from_residual-in_err-gate-in-Gate.ensures.1 (gate-called {s = s} {u = u} {a = told_swept (Err f)} ranking c.new.ensures c.new-in-Gate.ensures told.runs.extends.steps) (ap state_of told.refused))
 
@@ -62,7 +62,7 @@ returns-in_ok-gate-in-Gate-clause-calls g c =
     let s = state_in c.args.session.now in
     let u = state_in c.gate.new.self in
     let told = c.in_ok-gate-in-Gate.ensures in
-    let ranking : Ranking positions = record { before = before; mark = g.R.Ranking.mark; lawful = told.runs.lawful } in
+    let ranking : Ranking positions = record { before = before; mark = g.R.Ranking.INPUTS_FIRST; lawful = told.runs.lawful } in
     ap (called before s) c.in-Gate.is ∙ gate-called {s = s} {u = u} {a = told_swept (Ok c.in_ok-gate-in-Gate.field-0)} ranking c.new.ensures c.new-in-Gate.ensures told.runs.extends.steps
 
 pub returns-in_ok-output-in-Out-clause-calls : goal.returns-in_ok-output-in-Out-clause-calls

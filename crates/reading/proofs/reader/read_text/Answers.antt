@@ -19,11 +19,11 @@ use Rattle.reading.proofs.reader.read_text.Given as given
 use Rattle.reading.proofs.reader.read_text.Goals as goal
 
 -- the calls of any lines that are accepted continue every run
-runs_on : (g : given.Over) (by : g.row.R.Denot) (s : State) → RunsOn (g.R.Ranking.before by) g.R.Ranking.mark s
+runs_on : (g : given.Over) (by : g.row.R.Denot) (s : State) → RunsOn (g.R.Ranking.before by) g.R.Ranking.INPUTS_FIRST s
 runs_on g by s =
     let m = g.met.R.Ranking in
-    let law = lawful-from g.R.Ranking.before g.R.Ranking.mark m.irreflexive m.transitive m.ties m.inputs by in
-    record { lawful = law; continues = λ ls u h. continues (record { before = g.R.Ranking.before by; mark = g.R.Ranking.mark; lawful = law }) ls s u h }
+    let law = lawful-from g.R.Ranking.before g.R.Ranking.INPUTS_FIRST m.irreflexive m.transitive m.ties m.inputs by in
+    record { lawful = law; continues = λ ls u h. continues (record { before = g.R.Ranking.before by; mark = g.R.Ranking.INPUTS_FIRST; lawful = law }) ls s u h }
 
 pub returns-in_err-at_line : goal.returns-in_err-at_line
 returns-in_err-at_line g c =
