@@ -1,50 +1,19 @@
 // Replays a list of calls on sweeping sessions: a call on each line of standard input, an answer on each line of standard output.
-// A line of another form ends the program with status 1 and the line's number on standard error.
+// A line of another form, as the calls list, walk and cone here are, ends the program with status 1 and the line's number on standard error.
 #![tactic(auto)]
 
-mod answers;
-mod calls;
-mod memory;
-mod replaying;
-mod script;
-mod tables;
-
-use memory::OutOfMemory;
-use replaying::replay;
-use script::read_script;
+use input::read_text;
+use scripts::{Call, read_script, replay};
 use std::io;
-use std::io::Read;
 use std::process::ExitCode;
 
-// What fails besides a line of another form; the program then ends with status 1 and the error.
-#[derive(Debug, Drop)]
-enum Failure {
-    Io(io::Error),
-    Memory,
+fn is_taken(call: &Call) -> bool {
+    !matches!(call, Call::List | Call::Walk(_) | Call::Cone(_, _, _))
 }
 
-impl From<io::Error> for Failure {
-    fn from(e: io::Error) -> Failure {
-        Failure::Io(e)
-    }
-}
-
-impl From<OutOfMemory> for Failure {
-    fn from(_e: OutOfMemory) -> Failure {
-        Failure::Memory
-    }
-}
-
-// A byte that is no text becomes a character that no call has.
-fn read_input(rt: &HostRuntime) -> io::Result<String> {
-    let mut bytes = Vec::new(rt.alloc());
-    rt.stdin().read_to_end(&mut bytes)?;
-    Ok(String::from_utf8_lossy(rt.alloc(), bytes.as_slice())?)
-}
-
-fn main(rt: HostRuntime) -> Result<ExitCode, Failure> {
-    let text = read_input(&rt)?;
-    let script = read_script(rt.alloc(), text.as_str())?;
+fn main(rt: HostRuntime) -> io::Result<ExitCode> {
+    let text = read_text(rt.alloc(), rt.stdin())?;
+    let script = read_script(rt.alloc(), text.as_str(), |call| is_taken(call))?;
     let mut answers = String::new(rt.alloc());
     replay(rt.alloc(), script.calls.as_slice(), &mut answers)?;
     rt.print(answers.as_str())?;

@@ -1,10 +1,9 @@
 // The tables that a session is opened on.
 use crate::calls::Lengths;
-use crate::memory::OutOfMemory;
 use cuts::{Cut, CutKey, Edge};
 use lookup::{FaninPair, Slot};
 use search::ReducedRow;
-use std::alloc::Global;
+use std::alloc::{AllocError, Global};
 use sweeper::{Session, SourceRow};
 
 #[derive(Drop)]
@@ -17,16 +16,12 @@ pub(crate) struct Tables {
     outputs: Vec<Edge>,
 }
 
-fn filled<T: Copy>(heap: Global, row: T, length: usize) -> Result<Vec<T>, OutOfMemory> {
-    let mut rows = Vec::new(heap);
-    for _ in 0..length {
-        rows.push(row)?;
-    }
-    Ok(rows)
+pub(crate) fn filled<T: Copy>(heap: Global, row: T, length: usize) -> Result<Vec<T>, AllocError> {
+    vec![in heap; row; length]
 }
 
 impl Tables {
-    pub(crate) fn new(heap: Global, lengths: &Lengths) -> Result<Tables, OutOfMemory> {
+    pub(crate) fn new(heap: Global, lengths: &Lengths) -> Result<Tables, AllocError> {
         Ok(Tables {
             source: filled(heap, SourceRow::EMPTY, lengths.source)?,
             reduced: filled(heap, ReducedRow::EMPTY, lengths.reduced)?,

@@ -1,0 +1,46 @@
+// A script: its calls up to the first line that is none that its program takes.
+ghost use Rattle.std.specs.Prelude.{◌≡◌, ◌+◌, true, All, IfOk, IfSome, vec_len};
+ghost use Rattle.std.specs.Fn.{FnReturnsAt};
+
+use crate::calls::{Call, read_call};
+use std::alloc::{AllocError, Global};
+
+#[derive(Drop)]
+pub struct Script {
+    pub calls: Vec<Call>,
+    // The first line of another form, counted from 1.
+    pub other: Option<usize>,
+}
+
+// Reads the calls of a text that `takes` answers true for. A call on a session that was never opened is no call.
+pub fn read_script<F: Fn(&Call) -> bool>(
+    heap: Global,
+    text: &str,
+    takes: F,
+) -> Result<Script, AllocError>
+    requires { F.IsAlwaysCallable takes }
+    ensures taken { IfOk result (λ s. All (λ call. FnReturnsAt F.Fn takes call true) s.calls.items) }
+    ensures line { IfOk result (λ s. IfSome s.other (λ n. n ≡ vec_len s.calls + 1)) }
+{
+    let mut calls = Vec::new(heap);
+    for line in text.split_inclusive('\n') {
+        let Some(call) = read_call(heap, line)? else {
+            return Ok(ended(calls));
+        };
+        let may_follow = call.opens() || !calls.is_empty();
+        if !may_follow || !takes(&call) {
+            return Ok(ended(calls));
+        }
+        calls.push(call)?;
+    }
+    Ok(Script { calls, other: None })
+}
+
+// A script whose next line is of another form: every line before it is a call.
+fn ended(calls: Vec<Call>) -> Script
+    ensures same { result.calls.items ≡ calls.items }
+    ensures line { IfSome result.other (λ n. n ≡ vec_len calls + 1) }
+{
+    let other = Some(calls.len() + 1);
+    Script { calls, other }
+}
