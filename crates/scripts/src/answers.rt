@@ -31,7 +31,7 @@ impl fmt::Display for Answer {
         match self {
             Answer::Capacity(nodes) => write!(f, "capacity={nodes}"),
             Answer::Input(node) => write!(f, "input={node}"),
-            Answer::Swept(s) => write!(f, "{}={}", Shown(&s.outcome), s.edge.number()),
+            Answer::Swept(s) => write!(f, "{}={}", s.outcome, s.edge.number()),
             Answer::Output(e) => write!(f, "output={}", e.number()),
             Answer::Map(e) => write!(f, "map={}", e.number()),
             Answer::Tally(tally) => write!(f, "{}", Shown(tally)),

@@ -14,17 +14,6 @@ impl fmt::Display for Shown<'_, Refusal> {
     }
 }
 
-impl fmt::Display for Shown<'_, Outcome> {
-    fn fmt<W: fmt::Write>(&self, f: &mut fmt::Formatter<W>) -> fmt::Result {
-        match self.0 {
-            Outcome::Made => write!(f, "made"),
-            Outcome::Folded => write!(f, "folded"),
-            Outcome::Shared => write!(f, "shared"),
-            Outcome::Merged => write!(f, "merged"),
-        }
-    }
-}
-
 impl fmt::Display for Shown<'_, Tally> {
     fn fmt<W: fmt::Write>(&self, f: &mut fmt::Formatter<W>) -> fmt::Result {
         write!(
