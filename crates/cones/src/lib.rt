@@ -37,9 +37,7 @@ pub fn cone(session: &Session<'_>, e: Edge, marks: &mut [u8], cap: usize) -> Res
 }
 
 /// A node rests on what a path of fanins leads to, and a cone has the gates among that.
-/// The call carries the theorem; its answer says nothing more, and stays for those that make the call.
-pub fn cones_are_paths() -> u8
+pub fn cones_are_paths()
     ensures { ConesArePaths }
 {
-    0
 }
