@@ -1,6 +1,7 @@
 -- where the first mark stands
 use Rattle.std.proofs.Common.{◌≡◌, ℕ, zero, suc, ◌+◌, ◌<◌, Bool, true, false, cond, eqb, List, [], ◌∷◌, ◌++◌, length, get_or, take, drop, Some, None, Option, sym, refl, ap, ◌∙◌, add-one, arith, eq-eqb, ne_eqb, subst, length-append}
-use Rattle.std.specs.List.{AllByRecursion}
+use Rattle.std.specs.List.{AllByRecursion, AllWithin, HoldsAt}
+use Rattle.std.specs.Option.{MatchOption}
 use Rattle.std.proofs.lemmas.Bool.{eqb-true, eqb-false}
 use Rattle.lines.specs.Shape.{cut_at, in_front}
 
@@ -18,6 +19,12 @@ cut-here mark (x ∷ xs) (suc i) h no-mark here =
     ap (λ b. cond b (Some ([], xs)) (in_front x (cut_at mark xs))) (ne_eqb x mark (no-mark 0 (omega arith)))
     ∙ ap (in_front x) (cut-here mark xs i (omega arith) (λ k l. no-mark (suc k) (omega arith)) here)
     ∙ ap (λ m. Some (x ∷ take i xs, drop m (x ∷ xs))) (ap suc (add-one i) ∙ sym (add-one (suc i)))
+
+-- what a search for the mark tells
+pub cut-found_at : (mark : ℕ) (xs : List ℕ) (r : Option ℕ) → MatchOption r (AllWithin (λ x. x ≡ mark → ⊥) xs 0 (length xs)) (λ i. (i < length xs) × HoldsAt (λ x. x ≡ mark) xs i × AllWithin (λ x. x ≡ mark → ⊥) xs 0 i)
+    → MatchOption r (cut_at mark xs ≡ None) (λ i. cut_at mark xs ≡ Some (take i xs, drop (i + 1) xs))
+cut-found_at mark xs None none = cut-none mark xs (λ k h. none k 0 (omega arith) h)
+cut-found_at mark xs (Some i) first = cut-here mark xs i first.0 (λ k h. first.2 k 0 (omega arith) h) (first.1 0)
 
 -- no byte is the mark
 abbrev pub Lacks : ℕ → List ℕ → Type 0

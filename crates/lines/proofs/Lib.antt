@@ -1,5 +1,4 @@
 pub mod Cuts
-pub mod Digits
 pub mod Exact
 pub mod Moving
 pub mod Onward

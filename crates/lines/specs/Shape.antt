@@ -1,8 +1,8 @@
 -- the shape of numbers and lines
 use Rattle.std.specs.Prelude.{◌≡◌, ℕ, ◌+◌, ◌-◌, ◌*◌, Bool, true, cond, not, ◌&&◌, ◌||◌, List, [], ◌∷◌, length, drop, Some, None, Ok, Err, codes, Option, Result, MatchOption, ◌==◌, nat_le, nat_lt, slice_index}
+use Rattle.std.specs.Borrow.{Bor}
 use Rattle.lines.specs.declared.lines.Key.{Key}
 use Rattle.lines.specs.declared.lines.Key.TheVariants as key
-use Rattle.lines.specs.declared.lines.Keyed.{Keyed}
 use Rattle.lines.specs.declared.lines.Cut.{Cut}
 use Rattle.lines.specs.declared.lines.Line.{Line}
 use Rattle.lines.specs.declared.lines.Line.TheVariants.{Net, Input, Gate, Out, End}
@@ -63,8 +63,8 @@ keyed k bs other = cond (begins (key_text k) bs) (Some (k, drop (length (key_tex
 abbrev pub key_of : List ℕ → Option (Key × List ℕ)
 key_of bs = keyed key.Net bs (keyed key.Input bs (keyed key.Gate bs (keyed key.Out bs (keyed key.End bs None))))
 
-abbrev pub Splits : List ℕ → Option Keyed → Type 0
-Splits bs r = MatchOption r (key_of bs ≡ None) (λ k. key_of bs ≡ Some (k.key, k.rest.now))
+abbrev pub Splits : List ℕ → Option (Key × Bor (List ℕ)) → Type 0
+Splits bs r = MatchOption r (key_of bs ≡ None) (λ k. key_of bs ≡ Some (k.0, k.1.now))
 
 -- the key of a line
 abbrev pub kind_of : Line → Key

@@ -15,7 +15,7 @@ pub enum Line {
     End(u32),
 }
 
-// What a line begins with.
+// What a line begins with; the rules for the order of lines go by it, so it stands beside Line without numbers.
 #[derive(Clone, Copy)]
 pub enum Key {
     Net,
@@ -25,14 +25,7 @@ pub enum Key {
     End,
 }
 
-// A line's key, and what follows it.
-#[derive(Clone, Copy)]
-struct Keyed<'a> {
-    key: Key,
-    rest: &'a [u8],
-}
-
-// What stands before and after a byte.
+// What stands before and after a byte; a pair would not say which is which.
 #[derive(Clone, Copy)]
 pub struct Cut<'a> {
     pub before: &'a [u8],
@@ -43,42 +36,23 @@ pub struct Cut<'a> {
 pub fn cut_at(text: &[u8], mark: u8) -> Option<Cut<'_>>
     ensures { Cuts mark text.now result }
 {
-    for (i, b) in text.iter().enumerate() {
-        if *b == mark {
-            return Some(Cut {
-                before: &text[0..i],
-                after: &text[i + 1..],
-            });
-        }
-    }
-    None
+    let at = text.iter().position(|b| *b == mark)?;
+    Some(Cut {
+        before: &text[..at],
+        after: &text[at + 1..],
+    })
 }
 
-// The key that the line begins with.
-fn split_key(line: &[u8]) -> Option<Keyed<'_>>
+// The key that the line begins with, and what follows it.
+fn split_key(line: &[u8]) -> Option<(Key, &[u8])>
     ensures { Splits line.now result }
 {
     match line {
-        [b'n', b'e', b't', b'=', rest @ ..] => Some(Keyed {
-            key: Key::Net,
-            rest,
-        }),
-        [b'i', b'n', b'=', rest @ ..] => Some(Keyed {
-            key: Key::Input,
-            rest,
-        }),
-        [b'a', b'n', b'd', b'=', rest @ ..] => Some(Keyed {
-            key: Key::Gate,
-            rest,
-        }),
-        [b'o', b'u', b't', b'=', rest @ ..] => Some(Keyed {
-            key: Key::Out,
-            rest,
-        }),
-        [b'e', b'n', b'd', b'=', rest @ ..] => Some(Keyed {
-            key: Key::End,
-            rest,
-        }),
+        [b'n', b'e', b't', b'=', rest @ ..] => Some((Key::Net, rest)),
+        [b'i', b'n', b'=', rest @ ..] => Some((Key::Input, rest)),
+        [b'a', b'n', b'd', b'=', rest @ ..] => Some((Key::Gate, rest)),
+        [b'o', b'u', b't', b'=', rest @ ..] => Some((Key::Out, rest)),
+        [b'e', b'n', b'd', b'=', rest @ ..] => Some((Key::End, rest)),
         _ => None,
     }
 }
@@ -87,9 +61,7 @@ fn split_key(line: &[u8]) -> Option<Keyed<'_>>
 fn read_pair(text: &[u8]) -> Result<Line, LineFault>
     ensures { result ≡ read_pair text.now }
 {
-    let Some(Cut { before, after }) = cut_at(text, b',') else {
-        return Err(LineFault::Shape);
-    };
+    let Cut { before, after } = cut_at(text, b',').ok_or(LineFault::Shape)?;
     Ok(Line::Gate(read_number(before)?, read_number(after)?))
 }
 
@@ -97,9 +69,7 @@ fn read_pair(text: &[u8]) -> Result<Line, LineFault>
 pub fn read_line(line: &[u8]) -> Result<Line, LineFault>
     ensures { result ≡ read_line line.now }
 {
-    let Some(Keyed { key, rest }) = split_key(line) else {
-        return Err(LineFault::Shape);
-    };
+    let (key, rest) = split_key(line).ok_or(LineFault::Shape)?;
     match key {
         Key::Net => Ok(Line::Net(read_number(rest)?)),
         Key::Input => Ok(Line::Input(read_number(rest)?)),

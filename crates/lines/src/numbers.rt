@@ -13,11 +13,10 @@ fn digits(text: &[u8]) -> Option<u32>
 {
     let mut sum = 0u32;
     for b in text {
-        let digit = *b;
-        if digit < b'0' || digit > b'9' {
+        if !b.is_ascii_digit() {
             return None;
         }
-        sum = 10 * sum + u32::from(digit - b'0');
+        sum = 10 * sum + u32::from(*b - b'0');
     }
     Some(sum)
 }
@@ -27,18 +26,9 @@ pub fn read_number(text: &[u8]) -> Result<u32, LineFault>
     ensures { result ≡ read_number text.now }
 {
     let number = match text {
-        [] => None,
-        [b'0', _, ..] => None,
-        _ => {
-            if text.len() > MOST_DIGITS {
-                None
-            } else {
-                digits(text)
-            }
-        }
+        [] | [b'0', _, ..] => None,
+        _ if text.len() > MOST_DIGITS => None,
+        _ => digits(text),
     };
-    match number {
-        None => Err(LineFault::Shape),
-        Some(n) => Ok(n),
-    }
+    number.ok_or(LineFault::Shape)
 }

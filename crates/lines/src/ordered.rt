@@ -1,8 +1,7 @@
 // The order of the lines, and the numbers due.
-ghost use Rattle.std.specs.Prelude.{◌≡◌, if◌then◌else◌, Some, Ok, Err};
+ghost use Rattle.std.specs.Prelude.{◌≡◌, if◌then◌else◌, Ok, Err};
 ghost use Rattle.lines.specs.declared.faults.LineFault.TheVariants as line_fault;
-ghost use Rattle.lines.specs.declared.reader.Place.TheVariants as place;
-ghost use Rattle.lines.specs.Order.{in_range, is_due, placed, arrives, finished};
+ghost use Rattle.lines.specs.Order.{in_range, is_due, arrives, finished};
 ghost use Rattle.lines.specs.Position.{begun, position_of, Lands, Moves};
 
 use crate::faults::LineFault;
@@ -45,43 +44,28 @@ impl<'a> Reader<'a> {
         self.passed + 1
     }
 
-    // An output line in place.
-    fn add_out(&mut self, edge: u32) -> Result<(), LineFault>
-        ensures { Lands (placed (Some place.Outs) (in_range edge)) (position_of self.old) result (position_of self.new) }
-    {
-        limited(edge)?;
-        self.place = Place::Outs;
-        Ok(())
-    }
-
-    // An end line in place.
-    fn close(&mut self, n: u32, nodes: usize) -> Result<(), LineFault>
-        ensures { Lands (placed (Some place.Ended) (is_due n nodes)) (position_of self.old) result (position_of self.new) }
-    {
-        expect(n, nodes)?;
-        self.place = Place::Ended;
-        Ok(())
-    }
-
     // A line that is in place moves on to the next place, if its numbers are those due after so many nodes.
     fn arrive(&mut self, line: Line, nodes: usize) -> Result<(), LineFault>
         ensures { Lands (arrives (position_of self.old).place nodes line) (position_of self.old) result (position_of self.new) }
     {
-        // Two arms for one case: the borrow checker has no rule for an or-pattern that binds a number.
-        match (self.place, line) {
-            (Place::Start, Line::Net(n)) => {
+        match (line, self.place) {
+            (Line::Net(n), Place::Start) => {
                 expect(n, 1)?;
                 self.place = Place::Nodes;
             }
-            (Place::Nodes, Line::Input(n)) => expect(n, nodes.saturating_add(1))?,
-            (Place::Nodes, Line::Gate(a, b)) => {
+            (Line::Input(n), Place::Nodes) => expect(n, nodes.saturating_add(1))?,
+            (Line::Gate(a, b), Place::Nodes) => {
                 limited(a)?;
                 limited(b)?;
             }
-            (Place::Nodes, Line::Out(edge)) => self.add_out(edge)?,
-            (Place::Outs, Line::Out(edge)) => self.add_out(edge)?,
-            (Place::Nodes, Line::End(n)) => self.close(n, nodes)?,
-            (Place::Outs, Line::End(n)) => self.close(n, nodes)?,
+            (Line::Out(edge), Place::Nodes | Place::Outs) => {
+                limited(edge)?;
+                self.place = Place::Outs;
+            }
+            (Line::End(n), Place::Nodes | Place::Outs) => {
+                expect(n, nodes)?;
+                self.place = Place::Ended;
+            }
             _ => return Err(LineFault::Place),
         }
         Ok(())
@@ -110,6 +94,7 @@ impl<'a> Reader<'a> {
         };
         let line = read_line(before)?;
         self.arrive(line, nodes)?;
+        // Counted by hand: the lines are asked for one by one, so no loop here could number them.
         self.passed += 1;
         self.rest = after;
         Ok(Some(line))

@@ -1,4 +1,4 @@
-// A reader's place among the lines of a text.
+// A reader's place among the lines of a text. Its methods stand in ordered.rt, since their contracts name the struct.
 ghost use Rattle.std.specs.Prelude.{◌+◌, ◌^◌, ◌<◌, length};
 
 // Which lines may come next.

@@ -29,8 +29,12 @@ pub record Follows (text : List ℕ) (outline : Outline) : Type 0 where
   pub fit : AllByRecursion Fit (net_lines 0 graph)
   pub told : outline ≡ outline_of graph
 
--- the lines before the fault's line are those of a net so far, and the rest of the text breaks a rule
-pub record Refused (text : List ℕ) (e : TextFault LineFault) : Type 0 where
+-- the line that is refused, counted from 1, and the rule that it breaks
+abbrev pub Stop : Type 0
+Stop = TextFault LineFault
+
+-- the lines before the refused line are those of a net so far, and the rest of the text breaks a rule
+pub record Refused (text : List ℕ) (e : Stop) : Type 0 where
   pub before : List Line
   pub rest : List ℕ
   pub whole : text ≡ flat_map written before ++ rest
@@ -39,5 +43,5 @@ pub record Refused (text : List ℕ) (e : TextFault LineFault) : Type 0 where
   pub fit : AllByRecursion Fit before
   pub breaks : Breaks 0 before rest e.fault
 
-abbrev pub Told : List ℕ → Result Outline (TextFault LineFault) → Type 0
+abbrev pub Told : List ℕ → Result Outline Stop → Type 0
 Told text r = MatchResult r (Follows text) (Refused text)

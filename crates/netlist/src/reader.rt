@@ -1,8 +1,6 @@
 // What is counted of a net text.
 ghost use Rattle.std.specs.Prelude.{◌≡◌, ◌+◌, ◌^◌, ◌<◌, Ok, Err};
-ghost use Rattle.lines.specs.declared.faults.TextFault.{TextFault as Fault};
-ghost use Rattle.lines.specs.declared.faults.LineFault.{LineFault as Reason};
-ghost use Rattle.netlist.specs.Net.{Follows, Refused, Told};
+ghost use Rattle.netlist.specs.Net.{Stop, Follows, Refused, Told};
 ghost use Rattle.netlist.specs.Reading.{nodes_of, counted, read_text};
 
 use lines::{Line, LineFault, Reader, at_line};
@@ -48,7 +46,7 @@ pub fn read_text(text: &[u8]) -> Result<Outline, TextFault>
     ensures reads { result ≡ read_text text.now }
     ensures told { Told text.now result }
     ensures accepts { (o : Outline) → Follows text.now o → result ≡ Ok o }
-    ensures refuses { (e : Fault Reason) → Refused text.now e → result ≡ Err e }
+    ensures refuses { (e : Stop) → Refused text.now e → result ≡ Err e }
 {
     let mut reader = Reader::new(text);
     let mut outline = Outline::default();

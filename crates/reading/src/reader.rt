@@ -17,13 +17,14 @@ use rankings::Ranking;
 use sweeper::{Refusal, Session};
 
 // The call that a line asks for; a net or end line asks for none.
+// Session and ranking stay two arguments: read_text is given them apart, and a struct would only be taken apart again.
 fn call<R: Ranking>(session: &mut Session<'_>, by: &R, line: Line) -> Result<(), Refusal>
     requires { Fit line }
     ensures calls { Becomes (called (R.Ranking.before by.now) (state_in session.old) line) (state_in session.old) result (state_in session.new) }
     ensures rest { Rest (image_in session.old) (image_in session.new) }
 {
     match line {
-        Line::Net(_) => {}
+        Line::Net(_) | Line::End(_) => {}
         Line::Input(_) => {
             session.input()?;
         }
@@ -33,7 +34,6 @@ fn call<R: Ranking>(session: &mut Session<'_>, by: &R, line: Line) -> Result<(),
         Line::Out(edge) => {
             session.output(Edge::new(edge as u16))?;
         }
-        Line::End(_) => {}
     }
     Ok(())
 }

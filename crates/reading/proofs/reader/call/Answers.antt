@@ -1,4 +1,4 @@
-use Rattle.std.proofs.Common.{Ok, Err, sym, ap, ◌∙◌, subst}
+use Rattle.std.proofs.Common.{Ok, Err, sym, ap, ◌∙◌, subst, ⊎_elim}
 use Rattle.model.specs.Rankings.{Ranking}
 use Rattle.model.specs.Sessions.{positions}
 use Rattle.lines.specs.declared.lines.Line.TheVariants.{Input, Gate, Out}
@@ -47,7 +47,7 @@ pub returns-in-Net-clause-calls : goal.returns-in-Net-clause-calls
 returns-in-Net-clause-calls g c =
     let before = g.R.Ranking.before c.args.by.now in
     let s = state_in c.args.session.now in
-    ap (called before s) c.in-Net.is ∙ net-called before s c.in-Net.field-0
+    ⊎_elim (λ e. ap (called before s) e.1 ∙ net-called before s e.0) (λ e. ap (called before s) e.1 ∙ end-called before s e.0) c.in-Net.is
 
 pub returns-in_ok-input-in-Input-clause-calls : goal.returns-in_ok-input-in-Input-clause-calls
 returns-in_ok-input-in-Input-clause-calls g c =
@@ -71,9 +71,3 @@ returns-in_ok-output-in-Out-clause-calls g c =
     let s = state_in c.args.session.now in
     let u = state_in c.output.new.self in
     ap (called before s) c.in-Out.is ∙ output_called {s = s} {u = u} {a = told_edge (Ok c.in_ok-output-in-Out.field-0)} before c.new-in-Out.ensures c.in_ok-output-in-Out.ensures.runs.steps
-
-pub returns-in-End-clause-calls : goal.returns-in-End-clause-calls
-returns-in-End-clause-calls g c =
-    let before = g.R.Ranking.before c.args.by.now in
-    let s = state_in c.args.session.now in
-    ap (called before s) c.in-End.is ∙ end-called before s c.in-End.field-0

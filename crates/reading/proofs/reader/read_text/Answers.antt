@@ -3,13 +3,12 @@ use Rattle.std.proofs.lemmas.Result.{err_from_is_err_and}
 use Rattle.model.specs.Sessions.{State}
 use Rattle.rankings.proofs.Laws.{lawful-from}
 use Rattle.sweeper.specs.States.{state_in, image_in}
-use Rattle.sweeper.proofs.Gated.{same_rest}
 use Rattle.lines.specs.declared.faults.TextFault.{TextFault}
 use Rattle.lines.specs.Position.{position_of}
-use Rattle.lines.proofs.Moving.{answered-ok, answered-err, read_from}
+use Rattle.lines.proofs.Moving.{answered-ok, answered-err}
 use Rattle.reading.specs.declared.faults.ReadFault.{ReadFault}
 use Rattle.reading.specs.Faults.{answer_in}
-use Rattle.reading.specs.Reading.{caller, Steps}
+use Rattle.reading.specs.Reading.{Steps}
 use Rattle.reading.specs.Calls.{RunsOn}
 use Rattle.reading.proofs.Answering.{told, accepts, refuses}
 use Rattle.reading.proofs.Continuing.{continues}
@@ -47,9 +46,6 @@ returns-in_err-at_line g c =
       runs = runs_on g c.args.by.now s;
       rest = rest-joined (image_in c.args.session.now) (image_in c.loop.session) (image_in c.take_line.new.session) c.loop.invariant.1 c.take_line.ensures.rest (steps-longer before p here (position_of c.take_line.new.reader) u c.take_line.result c.take_line.ensures.steps);
     }
-
-pub loop-init : goal.loop-init
-loop-init g c = (ap (λ x. read_from (caller (g.R.Ranking.before c.args.by.now)) x (state_in c.args.session.now)) c.new-reader.ensures, same_rest (image_in c.args.session.now))
 
 pub loop-smaller : goal.loop-smaller
 loop-smaller g c =
