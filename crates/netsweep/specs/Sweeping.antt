@@ -1,14 +1,16 @@
 -- What is answered for a text, and what then stands on the page.
 use Rattle.std.specs.Prelude.{◌≡◌, ℕ, ◌<◌, ◌≤◌, List, length, Result, MatchResult}
 use Rattle.model.specs.Rankings.{by_height}
-use Rattle.model.specs.Sessions.{State, Tables, positions, lean, opened, refusal_number, too_short}
+use Rattle.model.specs.Sessions.{State, Tables, positions, lean, opened}
 use Rattle.model.specs.Texts.{report_text}
 use Rattle.model.specs.Runs.{Event, Run}
 use Rattle.model.specs.RunLaws.{Sound}
-use Rattle.reading.specs.Faults.{Stop, refusal_at}
+use Rattle.reading.specs.declared.faults.TextFault.{TextFault}
+use Rattle.reading.specs.Faults.{stop_in}
 use Rattle.reading.specs.Net.{Follows, Refused}
 use Rattle.pages.specs.Page.{over}
 use Rattle.netsweep.specs.declared.Refusal.{Refusal}
+use Rattle.netsweep.specs.declared.Refusal.TheVariants.{TooLong, Text, Page}
 
 -- the tables of the session: capacity 255 and 4,096 output rows
 abbrev pub tables : Tables
@@ -20,14 +22,6 @@ fresh = opened tables
 
 abbrev pub longest : ℕ
 longest = 16384
-
--- a line is refused with its number
-abbrev pub refused_by : Stop → Refusal
-refused_by e = record { number = refusal_number (refusal_at e.line e.fault); line = e.line }
-
--- the text is too long, or the page too short: no line is to blame
-abbrev pub no_room : Refusal
-no_room = record { number = refusal_number (too_short 0); line = 0 }
 
 -- the text is that of a net whose calls, ranked by height, are accepted one after another and lead to the state;
 -- exactly they form a run, and the run keeps all laws
@@ -45,17 +39,17 @@ pub record Reported (text before : List ℕ) (n : ℕ) (after : List ℕ) : Type
   pub fits : length (report_text state) ≤ length before
   pub page : after ≡ over (report_text state) before
 
--- why a text of a length that is taken has no report
+-- why a text of a length that is taken has no report: its first line that is refused, or a page that is shorter than the report
 pub data Declines (text page : List ℕ) (e : Refusal) : Type 0 where
-  stopped : (s : Stop) (u : State) → Refused by_height fresh text s u → e ≡ refused_by s → Declines text page e
-  too_wide : (u : State) → Swept text u → length page < length (report_text u) → e ≡ no_room → Declines text page e
+  stopped : (f : TextFault) (u : State) → Refused by_height fresh text (stop_in f) u → e ≡ Text f → Declines text page e
+  too_wide : (u : State) → Swept text u → length page < length (report_text u) → e ≡ Page (record { wanted = length (report_text u) }) → Declines text page e
 
 abbrev pub Sweeps : List ℕ → List ℕ → Result ℕ Refusal → List ℕ → Type 0
 Sweeps text before r after = MatchResult r (λ n. Reported text before n after) (λ e. Declines text before e × (after ≡ before))
 
 -- longer texts are refused, whatever is in them
 abbrev pub Refuses : List ℕ → Result ℕ Refusal → List ℕ → Type 0
-Refuses before r after = MatchResult r (λ n. ⊥) (λ e. (e ≡ no_room) × (after ≡ before))
+Refuses before r after = MatchResult r (λ n. ⊥) (λ e. (e ≡ TooLong) × (after ≡ before))
 
 pub record Answers (text before : List ℕ) (r : Result ℕ Refusal) (after : List ℕ) : Type 0 where
   pub taken : length text ≤ longest → Sweeps text before r after

@@ -3,8 +3,9 @@
 #![tactic(auto)]
 
 ghost use Rattle.std.specs.Prelude.{◌≡◌};
-ghost use Rattle.reading.specs.Faults.{stop_in};
-ghost use Rattle.netsweep.specs.Sweeping.{refused_by, no_room, Sweeps, Answers};
+ghost use Rattle.netsweep.specs.declared.Refusal.TheVariants.{Text, Page};
+ghost use Rattle.netsweep.specs.Refusing.{number_of, line_of};
+ghost use Rattle.netsweep.specs.Sweeping.{Sweeps, Answers};
 
 use cuts::{Cut, Edge};
 use listing::write_report;
@@ -12,6 +13,7 @@ use pages::Short;
 use rankings::ByHeight;
 use reading::{TextFault, read_text};
 use search::ReducedRow;
+use std::fmt;
 use sweeper::{Session, SourceRow, Tables};
 
 // The longest text that is taken.
@@ -28,32 +30,60 @@ const KEY_SLOTS: usize = 2048;
 
 const OUTPUTS: usize = 4096;
 
-// Why no report is written: the number of the refusal, and the line, or 0 for the text as a whole.
+// Why no report is written.
 #[derive(Clone, Copy)]
-pub struct Refusal {
-    pub number: u8,
-    pub line: usize,
+pub enum Refusal {
+    // The text is longer than the longest.
+    TooLong,
+    // A line of the text is refused.
+    Text(TextFault),
+    // The page is too short for the report.
+    Page(Short),
 }
 
-impl From<TextFault> for Refusal {
-    ghost from_gives = { λ e r. r ≡ refused_by (stop_in e) };
+impl Refusal {
+    // The number by which users know it.
+    pub fn number(self) -> u8
+        ensures { result ≡ number_of self }
+    {
+        match self {
+            Refusal::TooLong => 5,
+            Refusal::Text(e) => e.fault.number(),
+            Refusal::Page(short) => short.number(),
+        }
+    }
 
-    fn from(e: TextFault) -> Refusal {
-        Refusal {
-            number: e.fault.number(),
-            line: e.line,
+    // The line that is to blame, or 0 for the text as a whole.
+    pub fn line(self) -> usize
+        ensures { result ≡ line_of self }
+    {
+        match self {
+            Refusal::Text(e) => e.line,
+            Refusal::TooLong | Refusal::Page(_) => 0,
         }
     }
 }
 
+// As the program prints it.
+impl fmt::Display for Refusal {
+    fn fmt<W: fmt::Write>(&self, f: &mut fmt::Formatter<W>) -> fmt::Result {
+        write!(f, "refused={}\nline={}\n", self.number(), self.line())
+    }
+}
+
+impl From<TextFault> for Refusal {
+    ghost from_gives = { λ e r. r ≡ Text e };
+
+    fn from(e: TextFault) -> Refusal {
+        Refusal::Text(e)
+    }
+}
+
 impl From<Short> for Refusal {
-    ghost from_gives = { λ _ r. r ≡ no_room };
+    ghost from_gives = { λ e r. r ≡ Page e };
 
     fn from(e: Short) -> Refusal {
-        Refusal {
-            number: e.number(),
-            line: 0,
-        }
+        Refusal::Page(e)
     }
 }
 
@@ -84,7 +114,7 @@ pub fn sweep_text(text: &[u8], page: &mut [u8]) -> Result<usize, Refusal>
     ensures { Answers text.now page.old result page.new }
 {
     if text.len() > LONGEST {
-        return Err(Refusal { number: 5, line: 0 });
+        return Err(Refusal::TooLong);
     }
     sweep_short(text, page)
 }

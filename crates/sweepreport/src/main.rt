@@ -2,9 +2,10 @@
 // What is answered is settled in the library netsweep; here is what is read, printed and told to the shell.
 #![tactic(auto)]
 
-use netsweep::{Refusal, sweep_text};
+use input::read_front;
+use netsweep::sweep_text;
 use std::io;
-use std::io::{Read, Write};
+use std::io::Write;
 use std::process::ExitCode;
 
 // One byte more than the longest text, so that a longer one is seen to be too long.
@@ -12,51 +13,22 @@ const MOST: u64 = 16385;
 
 const PAGE: usize = 20480;
 
-// Why the program ends with status 1.
-#[derive(Drop)]
-enum Failure {
-    Io(io::Error),
-    Refused,
-}
-
-impl From<io::Error> for Failure {
-    fn from(e: io::Error) -> Failure {
-        Failure::Io(e)
-    }
-}
-
-fn read_input(rt: &HostRuntime) -> io::Result<Vec<u8>> {
-    let mut text = Vec::new(rt.alloc());
-    rt.stdin().take(MOST).read_to_end(&mut text)?;
-    Ok(text)
-}
-
-fn print_front(rt: &HostRuntime, page: &[u8], length: usize) -> io::Result<()> {
-    let end = length.min(page.len());
-    rt.stdout().write_all(&page[..end])
-}
-
-fn print_refusal(rt: &HostRuntime, refusal: Refusal) -> io::Result<()> {
-    println!(rt; "refused={}", refusal.number)?;
-    println!(rt; "line={}", refusal.line)
-}
-
-fn run(rt: &HostRuntime) -> Result<(), Failure> {
-    let text = read_input(rt)?;
+fn run(rt: &HostRuntime) -> io::Result<ExitCode> {
+    let text = read_front(rt.alloc(), rt.stdin(), MOST)?;
     let mut page = [0u8; PAGE];
     match sweep_text(text.as_slice(), &mut page) {
-        Ok(length) => Ok(print_front(rt, &page, length)?),
+        Ok(length) => {
+            rt.stdout().write_all(&page[..length.min(PAGE)])?;
+            Ok(ExitCode::SUCCESS)
+        }
         Err(refusal) => {
-            print_refusal(rt, refusal)?;
-            Err(Failure::Refused)
+            rt.print(refusal)?;
+            Ok(ExitCode::FAILURE)
         }
     }
 }
 
 // Writes nothing to standard error, whatever the failure.
 fn main(rt: HostRuntime) -> ExitCode {
-    match run(&rt) {
-        Ok(()) => ExitCode::SUCCESS,
-        Err(_) => ExitCode::FAILURE,
-    }
+    run(&rt).unwrap_or(ExitCode::FAILURE)
 }
