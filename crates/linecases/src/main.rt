@@ -2,22 +2,18 @@
 // It prints how many cases of the table agree, each that does not, and the counts, which its file stdout holds.
 #![tactic(auto)]
 
-mod nearby;
+mod counts;
 mod table;
 
 use std::io;
-use table::{CASES, agrees};
+use table::CASES;
 
 fn main(rt: HostRuntime) -> io::Result<()> {
-    let mut agreed = 0usize;
-    for case in CASES.iter() {
-        if agrees(case) {
-            agreed = agreed.saturating_add(1);
-        } else {
-            println!(rt; "differs: {:?}", case.text)?;
-        }
+    for case in CASES.iter().filter(|case| !case.agrees()) {
+        println!(rt; "differs: {:?}", case.text)?;
     }
+    let agreed = CASES.iter().filter(|case| case.agrees()).count();
     println!(rt; "cases={} agreed={agreed}", CASES.len())?;
-    println!(rt; "changed: {}", nearby::changed())?;
-    println!(rt; "shortened: {}", nearby::shortened())
+    println!(rt; "changed: {}", counts::changed())?;
+    println!(rt; "shortened: {}", counts::shortened())
 }

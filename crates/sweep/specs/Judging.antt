@@ -6,14 +6,22 @@ use Rattle.lines.specs.Faults.{line_refusal}
 use Rattle.netlist.specs.declared.reader.Outline.{Outline}
 use Rattle.netlist.specs.Reading.{read_text}
 use Rattle.sweep.specs.declared.Refusal.{Refusal}
+use Rattle.sweep.specs.declared.Refusal.TheVariants.{TooLong, Text}
 
-abbrev pub refusal_of : TextFault LineFault → Refusal
-refusal_of e = record { number = line_refusal e.fault; line = e.line }
+-- the number of a refusal that is printed
+abbrev pub number_of : Refusal → ℕ
+number_of TooLong = 5
+number_of (Text e) = line_refusal e.fault
+
+-- and the line
+abbrev pub line_of : Refusal → ℕ
+line_of TooLong = 0
+line_of (Text e) = e.line
 
 abbrev pub answered : Result Outline (TextFault LineFault) → Result Outline Refusal
 answered (Ok o) = Ok o
-answered (Err e) = Err (refusal_of e)
+answered (Err e) = Err (Text e)
 
--- more than 16,384 bytes are refused with number 5 at line 0; any other input is read
+-- more than 16,384 bytes are refused, with number 5 at line 0; any other input is read
 abbrev pub judged : List ℕ → Result Outline Refusal
-judged text = cond (nat_le (length text) 16384) (answered (read_text text)) (Err (record { number = 5; line = 0 }))
+judged text = cond (nat_le (length text) 16384) (answered (read_text text)) (Err TooLong)

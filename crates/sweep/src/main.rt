@@ -3,33 +3,59 @@
 #![tactic(auto)]
 
 ghost use Rattle.std.specs.Prelude.{◌≡◌};
-ghost use Rattle.sweep.specs.Judging.{refusal_of, judged};
+ghost use Rattle.sweep.specs.declared.Refusal.TheVariants as refusals;
+ghost use Rattle.sweep.specs.Judging.{number_of, line_of, judged};
 
+use input::read_front;
 use netlist::{Outline, TextFault};
-use std::io;
-use std::io::Read;
 use std::process::ExitCode;
+use std::{fmt, io};
 
-// The longest input that is taken, and the number of the refusal of a longer one.
+// The longest input that is taken.
 const MOST: usize = 16384;
 
-const TOO_LONG: u8 = 5;
-
-// A refusal as it is printed.
+// Why there is no outline.
 #[derive(Clone, Copy, PartialEq, Eq, Debug)]
-struct Refusal {
-    number: u8,
-    line: usize,
+enum Refusal {
+    // The input is longer than the longest.
+    TooLong,
+    // A line of the text is refused.
+    Text(TextFault),
+}
+
+impl Refusal {
+    // The number by which users know it.
+    fn number(self) -> u8
+        ensures { result ≡ number_of self }
+    {
+        match self {
+            Refusal::TooLong => 5,
+            Refusal::Text(e) => e.fault.number(),
+        }
+    }
+
+    // The line that is to blame, or 0 for the input as a whole.
+    fn line(self) -> usize
+        ensures { result ≡ line_of self }
+    {
+        match self {
+            Refusal::TooLong => 0,
+            Refusal::Text(e) => e.line,
+        }
+    }
+}
+
+impl fmt::Display for Refusal {
+    fn fmt<W: fmt::Write>(&self, f: &mut fmt::Formatter<W>) -> fmt::Result {
+        write!(f, "refused={}\nline={}\n", self.number(), self.line())
+    }
 }
 
 impl From<TextFault> for Refusal {
-    ghost from_gives = { λ e r. r ≡ refusal_of e };
+    ghost from_gives = { λ e r. r ≡ refusals.Text e };
 
     fn from(e: TextFault) -> Refusal {
-        Refusal {
-            number: e.fault.number(),
-            line: e.line,
-        }
+        Refusal::Text(e)
     }
 }
 
@@ -38,32 +64,9 @@ fn judge(text: &[u8]) -> Result<Outline, Refusal>
     ensures { result ≡ judged text.now }
 {
     if text.len() > MOST {
-        return Err(Refusal {
-            number: TOO_LONG,
-            line: 0,
-        });
+        return Err(Refusal::TooLong);
     }
     Ok(netlist::read_text(text)?)
-}
-
-// Why the program ends with status 1.
-#[derive(Drop)]
-enum Failure {
-    Io(io::Error),
-    Refused,
-}
-
-impl From<io::Error> for Failure {
-    fn from(e: io::Error) -> Failure {
-        Failure::Io(e)
-    }
-}
-
-// The input, of which one byte more than the most is enough to refuse it.
-fn read_input(rt: &HostRuntime) -> io::Result<Vec<u8>> {
-    let mut text = Vec::new(rt.alloc());
-    rt.stdin().take(MOST as u64 + 1).read_to_end(&mut text)?;
-    Ok(text)
 }
 
 fn print_outline(rt: &HostRuntime, outline: Outline) -> io::Result<()> {
@@ -73,28 +76,24 @@ fn print_outline(rt: &HostRuntime, outline: Outline) -> io::Result<()> {
     println!(rt; "end={}", outline.end)
 }
 
-fn print_refusal(rt: &HostRuntime, refusal: Refusal) -> io::Result<()> {
-    println!(rt; "refused={}", refusal.number)?;
-    println!(rt; "line={}", refusal.line)
-}
-
-fn run(rt: &HostRuntime) -> Result<(), Failure> {
-    let text = read_input(rt)?;
+// One byte more than the longest input is enough to refuse it.
+fn run(rt: &HostRuntime) -> io::Result<ExitCode> {
+    let text = read_front(rt.alloc(), rt.stdin(), MOST as u64 + 1)?;
     match judge(&text) {
-        Ok(outline) => Ok(print_outline(rt, outline)?),
+        Ok(outline) => {
+            print_outline(rt, outline)?;
+            Ok(ExitCode::SUCCESS)
+        }
         Err(refusal) => {
-            print_refusal(rt, refusal)?;
-            Err(Failure::Refused)
+            rt.print(refusal)?;
+            Ok(ExitCode::FAILURE)
         }
     }
 }
 
 // Writes nothing to standard error, whatever the failure.
 fn main(rt: HostRuntime) -> ExitCode {
-    match run(&rt) {
-        Ok(()) => ExitCode::SUCCESS,
-        Err(_) => ExitCode::FAILURE,
-    }
+    run(&rt).unwrap_or(ExitCode::FAILURE)
 }
 
 #[cfg(test)]
@@ -105,7 +104,7 @@ mod tests {
     fn refused(text: &[u8]) -> (u8, usize) {
         match judge(text) {
             Ok(_) => (0, 0),
-            Err(refusal) => (refusal.number, refusal.line),
+            Err(refusal) => (refusal.number(), refusal.line()),
         }
     }
 

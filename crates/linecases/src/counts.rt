@@ -1,0 +1,63 @@
+// Counts the answers for all texts next to a good one.
+use crate::table::{Refused, answer};
+use nearby::{each_changed, each_shortened};
+use std::fmt;
+
+const GOOD: [u8; 36] = *b"net=1\nin=1\nin=2\nand=2,5\nout=7\nend=3\n";
+
+// How many texts were accepted, and how many were refused for each reason.
+#[derive(Clone, Copy, Default)]
+pub struct Counts {
+    accepted: u32,
+    shape: u32,
+    place: u32,
+    number: u32,
+    lines: usize,
+}
+
+impl fmt::Display for Counts {
+    fn fmt<W: fmt::Write>(&self, f: &mut fmt::Formatter<W>) -> fmt::Result {
+        let Counts {
+            accepted,
+            shape,
+            place,
+            number,
+            lines,
+        } = *self;
+        write!(
+            f,
+            "accepted={accepted} shape={shape} place={place} number={number} sum of lines={lines}"
+        )
+    }
+}
+
+impl Counts {
+    fn add(&mut self, text: &[u8]) {
+        let count = match answer(text) {
+            Ok(_) => &mut self.accepted,
+            Err(Refused(number, line)) => {
+                self.lines = self.lines.saturating_add(line);
+                match number {
+                    7 => &mut self.shape,
+                    8 => &mut self.place,
+                    _ => &mut self.number,
+                }
+            }
+        };
+        *count = count.saturating_add(1);
+    }
+}
+
+// Each byte of the text changed into each other byte.
+pub(crate) fn changed() -> Counts {
+    let mut counts = Counts::default();
+    each_changed(&GOOD, |text| counts.add(text));
+    counts
+}
+
+// Each front of the text.
+pub(crate) fn shortened() -> Counts {
+    let mut counts = Counts::default();
+    each_shortened(&GOOD, |text| counts.add(text));
+    counts
+}
