@@ -1,11 +1,12 @@
 // Counts the answers for all texts next to a good one.
-use crate::table::{Refused, answer};
+use crate::table::answer;
 use nearby::{each_changed, each_shortened};
+use netlist::LineFault;
 use std::fmt;
 
 const GOOD: [u8; 36] = *b"net=1\nin=1\nin=2\nand=2,5\nout=7\nend=3\n";
 
-// How many texts were accepted, and how many were refused for each reason.
+// How many texts were accepted, and how many were refused for each reason: counts of one pass, which a chain would make several.
 #[derive(Clone, Copy, Default)]
 pub struct Counts {
     accepted: u32,
@@ -35,12 +36,12 @@ impl Counts {
     fn add(&mut self, text: &[u8]) {
         let count = match answer(text) {
             Ok(_) => &mut self.accepted,
-            Err(Refused(number, line)) => {
-                self.lines = self.lines.saturating_add(line);
-                match number {
-                    7 => &mut self.shape,
-                    8 => &mut self.place,
-                    _ => &mut self.number,
+            Err(refused) => {
+                self.lines = self.lines.saturating_add(refused.line);
+                match refused.fault {
+                    LineFault::Shape => &mut self.shape,
+                    LineFault::Place => &mut self.place,
+                    LineFault::Number => &mut self.number,
                 }
             }
         };
