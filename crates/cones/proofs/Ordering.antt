@@ -1,17 +1,9 @@
--- The reduced graph of a session: few nodes, and fanins that are earlier ones.
-use Rattle.std.proofs.Common.{◌≡◌, ℕ, ◌<◌, ◌≤◌, length, Some, refl, ap, arith}
-use mathlib.Core.Logic.{∥∥₁_elim}
-use native.Mathlib.Bridge.{le_prop}
+-- The fanins of a gate are earlier nodes.
+use Rattle.std.proofs.Common.{◌≡◌, ℕ, ◌<◌, Some, refl, ap, arith}
 use Rattle.model.specs.Edges.{node_of}
 use Rattle.model.specs.Graphs.{Node, Graph, input, gate, at, Ordered}
-use Rattle.model.proofs.Sound.{lose_nothing, sessions-fit}
-use Rattle.sweeper.specs.declared.session.Session.{Session}
-use Rattle.sweeper.specs.States.{state_in}
 use Rattle.cones.specs.Cones.{fanin_nodes}
 use Rattle.cones.proofs.Resting.{gate-at}
-
-pub few_nodes : (s : Session) → length (state_in s).reduced ≤ 16383
-few_nodes s = ∥∥₁_elim s.reached le_prop λ l. let all = lose_nothing _ _ _ _ (state_in s) sessions-fit l.run in omega (arith, all.nodes_fit, all.fewer)
 
 -- the nodes of a gate's fanins
 pub record Earlier (n a b : ℕ) : Type 0 where

@@ -1,14 +1,13 @@
--- What holds of both graphs of a state that a run leads to: there are few nodes, fanins are earlier nodes, and the inputs are as many.
+-- What holds of both graphs of a state that a run leads to: fanins are earlier nodes, and the inputs are as many.
 use Rattle.std.proofs.Common.{◌≡◌, ℕ, suc, ◌+◌, ◌<◌, ◌≤◌, ◌∷◌, length, Some, sym, ap, ◌∙◌, subst, add-one, arith}
 use mathlib.Core.Logic.{∥∥₁_elim}
 use native.Mathlib.Bridge.{le_prop}
 use native.Mathlib.Nat.{ℕ_set}
 use Rattle.model.specs.Edges.{node_of}
 use Rattle.model.specs.Graphs.{input, gate, Graph, at, inputs, Ordered}
-use Rattle.model.specs.Sessions.{State, Side, source_graph, reduced_graph, graph_of, node_limit}
+use Rattle.model.specs.Sessions.{State, Side, source_graph, reduced_graph, graph_of}
 use Rattle.model.proofs.Consistent.{Consistent, run_consistent}
-use Rattle.model.proofs.Sound.{lose_nothing, sessions-fit}
-use Rattle.sweeper.specs.Runs.{Led, Reached}
+use Rattle.sweeper.specs.Runs.{Reached}
 use Rattle.sweeper.specs.Reports.{entry}
 use Rattle.evaluation.proofs.Fronts.{front, front_length, front-more, front_ordered, entry-some}
 
@@ -30,13 +29,6 @@ told-earlier side s r n m x y is told = (∥∥₁_elim r le_prop λ l. (both (r
   where
     both : Consistent s → (node_of x ≤ n) × (node_of y ≤ n)
     both k = let here = entry-some (graph_of side s) n (gate x y) (told ∙ ap (entry input (graph_of side s)) is) in fanins-earlier (graph_of side s) (ordered_by side s k) n x y here.0 here.1
-
-few_by : (side : Side) (s : State) → Led s → length (graph_of side s) ≤ node_limit
-few_by source_graph s l = (lose_nothing _ _ _ _ s sessions-fit l.run).nodes_fit
-few_by reduced_graph s l = let all = lose_nothing _ _ _ _ s sessions-fit l.run in omega (arith, all.nodes_fit, all.fewer)
-
-pub few_nodes : (side : Side) (s : State) → Reached s → length (graph_of side s) ≤ node_limit
-few_nodes side s r = ∥∥₁_elim r le_prop (few_by side s)
 
 pub same_inputs : (s : State) → Reached s → inputs s.reduced ≡ inputs s.source
 same_inputs s r = ∥∥₁_elim r (ℕ_set _ _) λ l. (run_consistent l.run).same_inputs

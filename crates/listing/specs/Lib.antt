@@ -1,4 +1,3 @@
 pub mod Sections
 pub mod Stages
-pub mod Counted
 pub mod Listed

@@ -2,8 +2,8 @@
 ghost use Rattle.std.specs.Prelude.{[], ◌∷◌, length};
 ghost use Rattle.model.specs.Reports.{lines_of, mapped, done};
 ghost use Rattle.std.proofs.Common.{arith};
+ghost use Rattle.sweeper.specs.Counted;
 ghost use Rattle.sweeper.specs.States.{state_in};
-ghost use Rattle.listing.specs.Counted;
 ghost use Rattle.listing.specs.Listed.{numbers_count};
 
 use crate::section::{Section, edge_line};
@@ -13,13 +13,13 @@ use sweeper::Session;
 #[derive(Clone, Copy)]
 pub struct Maps;
 
-#[tactic(auto, using(crate::specs::Counted::few, crate::specs::Listed::numbers_count))]
+#[tactic(auto, using(crate::specs::Listed::numbers_count))]
 impl Section for Maps {
     ghost lines = { λ s. lines_of mapped s.mapped };
 
     ghost closing = { λ s. done (length s.source) ∷ [] };
 
-    ghost few = { λ s. omega (arith, numbers_count mapped (state_in s).mapped, (Counted.few s).mapped, (Counted.few s).source) };
+    ghost few = { λ s. omega (arith, numbers_count mapped (state_in s).mapped, (Counted.few (state_in s) s.reached).mapped, (Counted.few (state_in s) s.reached).source) };
 
     fn count(session: &Session<'_>) -> usize {
         session.source_nodes()

@@ -5,8 +5,8 @@ ghost use Rattle.sweeper.specs.Tables.{node_in};
 ghost use Rattle.pages.specs.Lines.{line_in};
 ghost use Rattle.listing.specs.Sections.{node_line};
 ghost use Rattle.std.proofs.Common.{arith};
+ghost use Rattle.sweeper.specs.Counted;
 ghost use Rattle.sweeper.specs.States.{state_in};
-ghost use Rattle.listing.specs.Counted;
 ghost use Rattle.listing.specs.Listed.{nodes_count};
 
 use crate::section::Section;
@@ -33,7 +33,7 @@ impl Section for Nodes {
 
     ghost closing = { λ _. [] };
 
-    ghost few = { λ s. omega (arith, nodes_count (state_in s).reduced, (Counted.few s).reduced) };
+    ghost few = { λ s. omega (arith, nodes_count (state_in s).reduced, (Counted.few (state_in s) s.reached).reduced) };
 
     fn count(session: &Session<'_>) -> usize {
         session.reduced_nodes()

@@ -2,8 +2,8 @@
 ghost use Rattle.std.specs.Prelude.{[], ◌∷◌, length};
 ghost use Rattle.model.specs.Reports.{lines_of, out, end};
 ghost use Rattle.std.proofs.Common.{arith};
+ghost use Rattle.sweeper.specs.Counted;
 ghost use Rattle.sweeper.specs.States.{state_in};
-ghost use Rattle.listing.specs.Counted;
 ghost use Rattle.listing.specs.Listed.{numbers_count};
 
 use crate::section::{Section, edge_line};
@@ -19,7 +19,7 @@ impl Section for Outs {
 
     ghost closing = { λ s. end (length s.reduced) ∷ [] };
 
-    ghost few = { λ s. omega (arith, numbers_count out (state_in s).outputs, (Counted.few s).outputs) };
+    ghost few = { λ s. omega (arith, numbers_count out (state_in s).outputs, (Counted.few (state_in s) s.reached).outputs) };
 
     fn count(session: &Session<'_>) -> usize {
         session.outputs()

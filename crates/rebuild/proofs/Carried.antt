@@ -6,7 +6,6 @@ use Rattle.std.specs.List.{flat_map, AllByRecursion}
 use Rattle.model.specs.Edges.{node_of}
 use Rattle.model.specs.Rankings.{Before}
 use Rattle.model.specs.Sessions.{State, map_edge}
-use Rattle.model.proofs.Sound.{lose_nothing, sessions-fit}
 use Rattle.lines.specs.Written.{written, Fit}
 use Rattle.lines.specs.declared.faults.TextFault.{TextFault}
 use Rattle.lines.specs.Net.{net_lines}
@@ -14,6 +13,7 @@ use Rattle.reading.specs.declared.faults.ReadFault.{ReadFault}
 use Rattle.reading.specs.Net.{Accepted, Follows}
 use Rattle.pages.specs.Page.{over}
 use Rattle.listing.specs.Sections.{net_text}
+use Rattle.sweeper.specs.Counted.{few}
 use Rattle.sweeper.specs.Runs.{Reached}
 use Rattle.sweeper.proofs.Reaching.{ordered}
 use Rattle.rebuild.specs.declared.RebuildFault.{RebuildFault}
@@ -27,9 +27,6 @@ known_prop n (e ∷ os) a b = λ i. (le_prop a.0 b.0 i, known_prop n os a.1 b.1 
 -- the outputs of a session name nodes of its reduced graph
 known : (s : State) → Reached s → Known s
 known s r = ∥∥₁_elim r (known_prop (length s.reduced) s.outputs) λ l. run-knows l.run
-
-few_nodes : (s : State) → Reached s → length s.reduced ≤ 16383
-few_nodes s r = ∥∥₁_elim r le_prop λ l. let all = lose_nothing _ _ _ _ s sessions-fit l.run in omega (arith, all.nodes_fit, all.fewer)
 
 -- a new session with space takes the net of every session
 pub record Taken (f : Before) (s t : State) : Type 0 where
@@ -48,7 +45,7 @@ takes f s t r h =
       follows = record {
         graph = net;
         whole = net_text_lem s.reduced s.outputs ∙ ap (λ n. flat_map written (net_lines n net)) none;
-        fit = subst (λ n. AllByRecursion Fit (net_lines n net)) none (net-fit s.reduced s.outputs (ordered s r) (few_nodes s r) (known s r));
+        fit = subst (λ n. AllByRecursion Fit (net_lines n net)) none (net-fit s.reduced s.outputs (ordered s r) (few s r).reduced (known s r));
         calls = subst (λ n. Accepted f t (net_lines n net) r'.after) none r'.calls;
       };
       source = r'.source;

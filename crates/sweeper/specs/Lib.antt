@@ -4,3 +4,4 @@ pub mod Answers
 pub mod Runs
 pub mod Reports
 pub mod States
+pub mod Counted

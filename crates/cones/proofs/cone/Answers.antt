@@ -1,10 +1,10 @@
 use Rattle.std.proofs.Common.{◌≡◌, ◌+◌, length, ap, ◌∙◌, arith, rules}
 use Rattle.model.specs.Edges.{node_of}
 use Rattle.model.specs.Graphs.{cone_of, gates_that, rests_on}
+use Rattle.sweeper.specs.Counted.{few}
 use Rattle.sweeper.specs.States.{state_in}
 use Rattle.cones.specs.Cones.{capped}
 use Rattle.sweeper.proofs.Reaching.{ordered}
-use Rattle.cones.proofs.Ordering.{few_nodes}
 use Rattle.cones.proofs.Listing.{cone_of_lem}
 use Rattle.cones.proofs.Answering.{no_such_node, few_marks, counts, marks_wiped, cone-told}
 use Rattle.cones.proofs.cone.Goals as goal
@@ -17,7 +17,7 @@ returns-then-node-nodes c = record {
 }
 
 pub overflow_add-result : goal.overflow_add-result
-overflow_add-result c = omega (arith, few_nodes c.args.session.now)
+overflow_add-result c = omega (arith, (few (state_in c.args.session.now) c.args.session.now.reached).reduced)
 
 pub returns-then-marks-nodes : goal.returns-then-marks-nodes
 returns-then-marks-nodes c = record {

@@ -1,7 +1,8 @@
 use Rattle.std.proofs.Common.{Ok, refl, take, subst}
 use Rattle.std.proofs.lemmas.Result.{err_from_is_err_and}
-use Rattle.reading.specs.Net.{Follows}
-use Rattle.reading.proofs.Answering.{told-ok}
+use Rattle.reading.specs.Faults.{stop_in}
+use Rattle.reading.specs.Net.{Follows, Refused}
+use Rattle.reading.proofs.Answering.{told-ok, told-err}
 use Rattle.listing.specs.Sections.{net_text}
 use Rattle.sweeper.specs.States.{state_in}
 use Rattle.rebuild.proofs.Carried.{Accepting, read_back, rebuilds_short, rebuilds_refused, rebuilds_read}
@@ -14,6 +15,19 @@ returns-in_err-length g c =
     let p = err_from_is_err_and c.from_residual.result c.from_residual.ensures.1 in
     let w = c.in_err-length.ensures in
     rw (p.1, p.2) record { carries = (w.0, w.1, w.2, refl); rebuilds = rebuilds_short (g.R.Ranking.before c.args.by.now) s t c.args.page.now _ t w.1 }
+
+pub returns-in_err-read_text-clause-carries : goal.returns-in_err-read_text-clause-carries
+returns-in_err-read_text-clause-carries g c =
+    let f = g.R.Ranking.before c.args.by.now in
+    let s = state_in c.args.listed.now in
+    let t = state_in c.args.into.now in
+    let u = state_in c.read_text.new.session in
+    let w = c.in_ok-length.ensures in
+    let p = err_from_is_err_and c.from_residual-in_err-read_text.result c.from_residual-in_err-read_text.ensures.1 in
+    let e = c.in_err-read_text.field-0.0 in
+    let back = read_back (net_text s) c.args.page.now c.write_net.new.page c.in_ok-length.length w.0 w.2 in
+    let told = told-err f t (take c.in_ok-length.length c.write_net.new.page) u c.read_text.result e c.in_err-read_text.was c.read_text.ensures.told in
+    rw (p.1, p.2) (w.2, subst (λ x. Refused f t x (stop_in e) u) back told)
 
 pub returns-in_err-read_text-clause-rebuilds : goal.returns-in_err-read_text-clause-rebuilds
 returns-in_err-read_text-clause-rebuilds g c =
