@@ -126,11 +126,11 @@ pass_end : (os : List ℕ) (n : ℕ) → Passes (at Nodes n) (map (λ e. Out e) 
 pass_end [] n = (at Ended n, record { place = Ended; leads = refl; due = refl; goes = refl }, refl)
 pass_end (x ∷ os) n = (at Outs n, record { place = Outs; leads = refl; due = tt; goes = refl }, pass_outs os n)
 
-abbrev numbered : ℕ → Node → Line
+abbrev pub numbered : ℕ → Node → Line
 numbered k input = Input k
 numbered k (gate a b) = Gate a b
 
-node-push : (k : ℕ) (ns : List Node) (n : Node) → node_lines k (ns ++ n ∷ []) ≡ node_lines k ns ++ numbered (k + length ns) n ∷ []
+pub node-push : (k : ℕ) (ns : List Node) (n : Node) → node_lines k (ns ++ n ∷ []) ≡ node_lines k ns ++ numbered (k + length ns) n ∷ []
 node-push k [] input = ap (λ m. Input m ∷ []) (let z : k ≡ k + 0 = omega arith in z)
 node-push k [] (gate a b) = refl
 node-push k (input ∷ ns) n = ap (λ ls. Input k ∷ ls) (node-push (k + 1) ns n ∙ ap (λ m. node_lines (k + 1) ns ++ numbered m n ∷ []) (let z : k + 1 + length ns ≡ k + suc (length ns) = omega arith in z))

@@ -2,7 +2,7 @@
 use Rattle.std.proofs.Common.{◌≡◌, ℕ, ◌<◌, ◌≤◌, List, [], ◌∷◌, map, length, take, drop, Ok, Err, Result, sym, refl, ap, ◌∙◌, subst, arith, take_at}
 use mathlib.Core.Logic.{∥∥₁_elim}
 use native.Mathlib.Bridge.{le_prop}
-use Rattle.std.specs.List.{flat_map, AllByRecursion}
+use Rattle.std.specs.List.{flat_map, AllByRecursion, AllByRecursion-prop}
 use Rattle.model.specs.Edges.{node_of}
 use Rattle.model.specs.Rankings.{Before}
 use Rattle.model.specs.Sessions.{State, map_edge}
@@ -20,13 +20,9 @@ use Rattle.rebuild.specs.declared.RebuildFault.{RebuildFault}
 use Rattle.rebuild.specs.Rebuilding.{Takes, Rebuilds}
 use Rattle.rebuild.proofs.Nets.{Known, net_of, net_text_lem, net-fit, run-knows, rebuild_net}
 
-known_prop : (n : ℕ) (os : List ℕ) → IsProp (AllByRecursion (λ e. node_of e ≤ n) os)
-known_prop n [] a b = refl
-known_prop n (e ∷ os) a b = λ i. (le_prop a.0 b.0 i, known_prop n os a.1 b.1 i)
-
 -- the outputs of a session name nodes of its reduced graph
 known : (s : State) → Reached s → Known s
-known s r = ∥∥₁_elim r (known_prop (length s.reduced) s.outputs) λ l. run-knows l.run
+known s r = ∥∥₁_elim r (AllByRecursion-prop _ (λ e. le_prop) s.outputs) λ l. run-knows l.run
 
 -- a new session with space takes the net of every session
 pub record Taken (f : Before) (s t : State) : Type 0 where

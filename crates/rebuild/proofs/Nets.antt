@@ -1,14 +1,14 @@
 -- The lines of a graph, read into a new session with space, make it the source graph.
-use Rattle.std.proofs.Common.{◌≡◌, ℕ, suc, ◌+◌, ◌<◌, ◌≤◌, true, false, ltb, List, [], ◌∷◌, ◌++◌, map, length, Ok, sym, refl, ap, ◌∙◌, subst, ap₂, arith}
+use Rattle.std.proofs.Common.{◌≡◌, ℕ, suc, ◌+◌, ◌<◌, ◌≤◌, true, ltb, List, [], ◌∷◌, ◌++◌, map, length, Ok, sym, refl, ap, ◌∙◌, subst, ap₂, arith}
 use lib.ListN.{length-map}
 use Rattle.std.specs.List.{flat_map, AllByRecursion}
-use Rattle.std.proofs.lemmas.List.{append_assoc, length_push, map_push}
+use Rattle.std.proofs.lemmas.List.{append_assoc, length_push, map-append, map_push}
 use Rattle.std.proofs.ByRecursion.{All-push, All-append, All-weaker}
 use Rattle.std.proofs.lemmas.Bool.{le-leb, lt-ltb}
 use Rattle.model.specs.Edges.{node_of}
 use Rattle.model.specs.Graphs.{Node, input, gate, Graph, Ordered}
 use Rattle.model.specs.Rankings.{Before}
-use Rattle.model.specs.Sessions.{State, positions, map_edge, has_room, knows, with_input, with_output, sweep_gate}
+use Rattle.model.specs.Sessions.{State, positions, node_limit, map_edge, has_room, knows, with_input, with_output, sweep_gate}
 use Rattle.model.specs.Reports as report
 use Rattle.model.specs.Texts as text
 use Rattle.model.specs.Runs.{Event, Run, opening, calling}
@@ -21,8 +21,10 @@ use Rattle.lines.specs.declared.lines.Line.TheVariants.{Net, Input, Gate, Out, E
 use Rattle.lines.specs.Written.{line_in, written, Fit}
 use Rattle.lines.specs.Net as net
 use Rattle.lines.specs.Net.{node_lines, net_lines}
+use Rattle.lines.proofs.Ordering.{node-push}
+use Rattle.lines.proofs.Telling.{accepted_push}
 use Rattle.reading.specs.Net.{Accepted}
-use Rattle.reading.specs.Reading.{called}
+use Rattle.reading.specs.Reading.{called, caller}
 
 -- a list whose newest stands first, from its oldest on
 abbrev pub oldest : {A : Type 0} → List A → List A
@@ -59,20 +61,7 @@ module _ (f : Before) where
   accepted_append [] ms s t u e h = subst (λ x. Accepted f x ms u) (sym e) h
   accepted_append (l ∷ ls) ms s t u p h = (p.0, p.1, accepted_append ls ms p.0 t u p.2 h)
 
-  accepted_push : (ls : List Line) (l : Line) (s t u : State) → Accepted f s ls t → called f t l ≡ Ok u → Accepted f s (ls ++ l ∷ []) u
-  accepted_push ls l s t u p h = accepted_append ls (l ∷ []) s t u p (u, h, refl)
-
   -- ---- nodes
-  abbrev numbered : ℕ → Node → Line
-  numbered k input = Input k
-  numbered k (gate a b) = Gate a b
-
-  node-push : (k : ℕ) (ns : List Node) (n : Node) → node_lines k (ns ++ n ∷ []) ≡ node_lines k ns ++ numbered (k + length ns) n ∷ []
-  node-push k [] input = ap (λ m. Input m ∷ []) (let z : k ≡ k + 0 = omega arith in z)
-  node-push k [] (gate a b) = refl
-  node-push k (input ∷ ns) n = ap (λ ls. Input k ∷ ls) (node-push (k + 1) ns n ∙ ap (λ m. node_lines (k + 1) ns ++ numbered m n ∷ []) (let z : k + 1 + length ns ≡ k + suc (length ns) = omega arith in z))
-  node-push k (gate a b ∷ ns) n = ap (λ ls. Gate a b ∷ ls) (node-push (k + 1) ns n ∙ ap (λ m. node_lines (k + 1) ns ++ numbered m n ∷ []) (let z : k + 1 + length ns ≡ k + suc (length ns) = omega arith in z))
-
   -- a new session after the lines of a graph
   pub record Rebuilt (g : Graph) (s : State) : Type 0 where
     pub after : State
@@ -96,7 +85,7 @@ module _ (f : Before) where
         record {
           after = (with_input r.after).state;
           calls = subst (λ ls. Accepted f s ls (with_input r.after).state) (sym (node-push 1 (oldest g) input))
-              (accepted_push (node_lines 1 (oldest g)) (Input (1 + length (oldest g))) s r.after (with_input r.after).state r.calls (called-input r.after (1 + length (oldest g)) (room_for g r (omega arith))));
+              (accepted_push (caller f) (node_lines 1 (oldest g)) (Input (1 + length (oldest g))) s r.after (with_input r.after).state r.calls (called-input r.after (1 + length (oldest g)) (room_for g r (omega arith))));
           source = ap (λ x. input ∷ x) r.source;
           capacity = r.capacity;
           outputs = r.outputs;
@@ -108,7 +97,7 @@ module _ (f : Before) where
         record {
           after = u;
           calls = subst (λ ls. Accepted f s ls u) (sym (node-push 1 (oldest g) (gate x y)))
-              (accepted_push (node_lines 1 (oldest g)) (Gate x y) s r.after u r.calls (called-gate r.after x y (known_in g r x o.0) (known_in g r y o.1) (room_for g r (omega arith))));
+              (accepted_push (caller f) (node_lines 1 (oldest g)) (Gate x y) s r.after u r.calls (called-gate r.after x y (known_in g r x o.0) (known_in g r y o.1) (room_for g r (omega arith))));
           source = ap (λ z. gate x y ∷ z) r.source;
           capacity = r.capacity;
           outputs = r.outputs;
@@ -134,7 +123,7 @@ module _ (f : Before) where
       let free : ltb (length r.after.outputs) r.after.rows_for_outputs ≡ true = lt-ltb _ _ (let a = ap length r.outputs in let b = length-map os (map_edge s) in omega (arith, a, b, r.rows)) in
       record {
         after = u;
-        calls = subst (λ ls. Accepted f s ls u) (sym (map_push (λ x. Out x) (oldest os) e)) (accepted_push (map (λ x. Out x) (oldest os)) (Out e) s r.after u r.calls (called-out r.after e in_graph free));
+        calls = subst (λ ls. Accepted f s ls u) (sym (map_push (λ x. Out x) (oldest os) e)) (accepted_push (caller f) (map (λ x. Out x) (oldest os)) (Out e) s r.after u r.calls (called-out r.after e in_graph free));
         source = r.source;
         maps = r.maps;
         outputs = ap₂ (λ x xs. x ∷ xs) same r.outputs;
@@ -164,7 +153,7 @@ module _ (f : Before) where
           s,
           called-net s 1,
           accepted_append (node_lines 1 (oldest g)) (map (λ e. Out e) (oldest os) ++ End (0 + length (oldest g)) ∷ []) s r.after q.after r.calls
-              (accepted_push (map (λ e. Out e) (oldest os)) (End (0 + length (oldest g))) r.after q.after q.after q.calls (called-end q.after (0 + length (oldest g)))),
+              (accepted_push (caller f) (map (λ e. Out e) (oldest os)) (End (0 + length (oldest g))) r.after q.after q.after q.calls (called-end q.after (0 + length (oldest g)))),
         );
         source = q.source ∙ r.source;
         outputs = q.outputs ∙ map_same r.after q.after os q.maps;
@@ -182,11 +171,11 @@ joined_in (l ∷ ls) = ap (λ x. written l ++ x) (joined_in ls)
 nodes_in : (g : Graph) → map line_in (node_lines 1 (oldest g)) ≡ report.node_lines g
 nodes_in [] = refl
 nodes_in (input ∷ g) =
-    ap (map line_in) (node-push (λ a b. false) 1 (oldest g) input)
+    ap (map line_in) (node-push 1 (oldest g) input)
     ∙ map_push line_in (node_lines 1 (oldest g)) (Input (1 + length (oldest g)))
     ∙ ap₂ (λ ls n. ls ++ report.«in» n ∷ []) (nodes_in g) (let e = oldest-length g in let z : 1 + length (oldest g) ≡ suc (length g) = omega arith in z)
 nodes_in (gate x y ∷ g) =
-    ap (map line_in) (node-push (λ a b. false) 1 (oldest g) (gate x y))
+    ap (map line_in) (node-push 1 (oldest g) (gate x y))
     ∙ map_push line_in (node_lines 1 (oldest g)) (Gate x y)
     ∙ ap (λ ls. ls ++ report.and x y ∷ []) (nodes_in g)
 
@@ -196,10 +185,6 @@ outs_in (e ∷ os) =
     ap (map line_in) (map_push (λ x. Out x) (oldest os) e)
     ∙ map_push line_in (map (λ x. Out x) (oldest os)) (Out e)
     ∙ ap (λ ls. ls ++ report.out e ∷ []) (outs_in os)
-
-map-append : {A B : Type 0} (h : A → B) (xs ys : List A) → map h (xs ++ ys) ≡ map h xs ++ map h ys
-map-append h [] ys = refl
-map-append h (x ∷ xs) ys = ap (λ l. h x ∷ l) (map-append h xs ys)
 
 lines_in : (g : Graph) (os : List ℕ) → map line_in (net_lines 0 (net_of g os)) ≡ report.net_lines g os
 lines_in g os =
@@ -213,24 +198,24 @@ pub net_text_lem : (g : Graph) (os : List ℕ) → text.text_of (report.net_line
 net_text_lem g os = sym (joined_in (net_lines 0 (net_of g os)) ∙ ap text.text_of (lines_in g os))
 
 -- ---- the numbers
-small-edge : (e n : ℕ) → node_of e ≤ n → n ≤ 16383 → e < 32768
+small-edge : (e n : ℕ) → node_of e ≤ n → n ≤ node_limit → e < 32768
 small-edge e n h k = omega arith
 
-nodes_fit : (g : Graph) → Ordered g → length g ≤ 16383 → AllByRecursion Fit (node_lines 1 (oldest g))
+nodes_fit : (g : Graph) → Ordered g → length g ≤ node_limit → AllByRecursion Fit (node_lines 1 (oldest g))
 nodes_fit [] o few = tt
 nodes_fit (input ∷ g) o few =
-    subst (AllByRecursion Fit) (sym (node-push (λ a b. false) 1 (oldest g) input))
+    subst (AllByRecursion Fit) (sym (node-push 1 (oldest g) input))
     (All-push Fit (node_lines 1 (oldest g)) (Input (1 + length (oldest g))) (nodes_fit g o (omega arith)) (let e = oldest-length g in omega arith))
 nodes_fit (gate x y ∷ g) o few =
-    subst (AllByRecursion Fit) (sym (node-push (λ a b. false) 1 (oldest g) (gate x y)))
+    subst (AllByRecursion Fit) (sym (node-push 1 (oldest g) (gate x y)))
     (All-push Fit (node_lines 1 (oldest g)) (Gate x y) (nodes_fit g o.2 (omega arith)) (small-edge x (length g) o.0 (omega arith), small-edge y (length g) o.1 (omega arith)))
 
-outs-fit : (n : ℕ) → n ≤ 16383 → (os : List ℕ) → AllByRecursion (λ e. node_of e ≤ n) os → AllByRecursion Fit (map (λ e. Out e) (oldest os))
+outs-fit : (n : ℕ) → n ≤ node_limit → (os : List ℕ) → AllByRecursion (λ e. node_of e ≤ n) os → AllByRecursion Fit (map (λ e. Out e) (oldest os))
 outs-fit n few [] h = tt
 outs-fit n few (e ∷ os) h =
     subst (AllByRecursion Fit) (sym (map_push (λ x. Out x) (oldest os) e)) (All-push Fit (map (λ x. Out x) (oldest os)) (Out e) (outs-fit n few os h.1) (small-edge e n h.0 few))
 
-pub net-fit : (g : Graph) (os : List ℕ) → Ordered g → length g ≤ 16383 → AllByRecursion (λ e. node_of e ≤ length g) os → AllByRecursion Fit (net_lines 0 (net_of g os))
+pub net-fit : (g : Graph) (os : List ℕ) → Ordered g → length g ≤ node_limit → AllByRecursion (λ e. node_of e ≤ length g) os → AllByRecursion Fit (net_lines 0 (net_of g os))
 net-fit g os o few known = (
   omega arith,
   All-append Fit (node_lines 1 (oldest g)) (map (λ e. Out e) (oldest os) ++ End (0 + length (oldest g)) ∷ []) (nodes_fit g o few)
