@@ -40,7 +40,7 @@ quarter : (n m : ℕ) → m ≤ n / 4 → 4 * m ≤ n
 quarter n m h = omega arith
 
 module _ (source : List SourceRow) (reduced : List ReducedRow) (cuts : List Cut) (pairs : List (Slot FaninPair)) (keys : List (Slot CutKey)) (outputs : List Edge) (capacity : ℕ) (tally : Tally) where
-  abbrev fresh : Image
+  abbrev pub fresh : Image
   fresh = record { source = source; reduced = reduced; cuts = cuts; pairs = pairs; keys = keys; outputs = outputs; capacity = capacity; sources = 0; nodes = 0; outs = 0; tally = tally }
 
   pub fresh-sound : (outs most more : ℕ) → capacity ≡ capacity_of node_limit 4 (record { source = length source; reduced = length reduced; cuts = length cuts; pairs = most; keys = more; outputs = outs })

@@ -1,3 +1,4 @@
+pub mod Lists
 pub mod Newest
 pub mod Reaching
 pub mod Inputting

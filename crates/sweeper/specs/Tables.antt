@@ -96,16 +96,16 @@ pub record Image : Type 0 where
 
 abbrev pub image : Core → Image
 image c = record {
-  source = c.source.now;
-  reduced = c.reduced.now;
+  source = c.source.places.now;
+  reduced = c.reduced.places.now;
   cuts = c.cuts.now;
   pairs = c.pairs.slots.now;
   keys = c.keys.slots.now;
-  outputs = c.outputs.now;
+  outputs = c.outputs.places.now;
   capacity = c.capacity;
-  sources = c.sources;
-  nodes = c.nodes;
-  outs = c.outs;
+  sources = c.source.count;
+  nodes = c.reduced.count;
+  outs = c.outputs.count;
   tally = c.tally;
 }
 

@@ -19,16 +19,15 @@ pub struct Swept {
 impl<'a> Core<'a> {
     pub(crate) fn accept(&mut self, a: Edge, b: Edge, outcome: Outcome, mapped: Edge) -> Swept
         requires sound { Sound (image self.old) }
-        requires room { self.old.sources < self.old.capacity }
+        requires room { self.old.source.count < self.old.capacity }
         requires few { count_of self.old.tally outcome < 2 ^ 32 - 1 }
         ensures after { image self.new ≡ after_edge (image self.old) a b outcome mapped }
         ensures is { result ≡ record { outcome = outcome; edge = mapped } }
     {
-        self.source[self.sources] = SourceRow {
+        let _ = self.source.push(SourceRow {
             node: Node::Gate(a, b),
             mapped,
-        };
-        self.sources += 1;
+        });
         self.tally.note(outcome);
         Swept {
             outcome,

@@ -35,7 +35,7 @@ impl<'a> Session<'a> {
             &self.fanin(y),
             POSITIONS,
             &self.core.keys,
-            &self.core.reduced[..self.core.nodes],
+            self.core.reduced.items(),
             kept,
         )
     }

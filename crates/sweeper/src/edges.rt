@@ -37,12 +37,10 @@ impl<'a> Session<'a> {
         ensures refused { Refused result (image self.new.core ≡ image self.old.core) }
     {
         let mapped = self.mapped_edge(e, 0)?;
-        let core = &mut self.core;
-        if core.outs >= core.outputs.len() {
-            return Err(Refusal::NoOutputRow(core.outs));
+        if self.core.outputs.push(mapped) {
+            Ok(mapped)
+        } else {
+            Err(Refusal::NoOutputRow(self.core.outputs.len()))
         }
-        core.outputs[core.outs] = mapped;
-        core.outs += 1;
-        Ok(mapped)
     }
 }

@@ -26,7 +26,7 @@ impl<'a> Core<'a> {
     // A new gate: the source gate maps to the next reduced node.
     fn make(&mut self, a: Edge, b: Edge, x: Edge, y: Edge, kept: &[Cut]) -> Swept
         requires sound { Sound (image self.old) }
-        requires room { self.old.sources < self.old.capacity }
+        requires room { self.old.source.count < self.old.capacity }
         requires few { (o : Outcome) → count_of self.old.tally o < 2 ^ 32 - 1 }
         requires growable { (m : EdgeOf) → Growable (after_edge (image self.old) a b outcomes.Made m) x.number y.number kept.now }
         ensures kept { Sound (image self.new) }
@@ -34,7 +34,7 @@ impl<'a> Core<'a> {
         ensures rest { Rest (image self.old) (image self.new) }
         ensures is { swept_in result ≡ swept was_made (edge (suc (length (graph_of (image self.old)))) false) }
     {
-        let edge = Edge::new(2 * (self.nodes as u16 + 1));
+        let edge = Edge::new(2 * (self.reduced.len() as u16 + 1));
         let answer = self.accept(a, b, Outcome::Made, edge);
         let _ = self.grow(x, y, kept);
         answer
@@ -43,7 +43,7 @@ impl<'a> Core<'a> {
     // An edge that is there already.
     fn reuse(&mut self, a: Edge, b: Edge, found: Existing) -> Swept
         requires sound { Sound (image self.old) }
-        requires room { self.old.sources < self.old.capacity }
+        requires room { self.old.source.count < self.old.capacity }
         requires few { (o : Outcome) → count_of self.old.tally o < 2 ^ 32 - 1 }
         requires fits { NodeFits found }
         ensures kept { Sound (image self.new) }
@@ -65,9 +65,9 @@ impl<'a> Session<'a> {
     // Only `sweep` and `make` take a source gate's fanins and the mapped ones together, so the four have no struct of their own.
     // The mapped fanins, the smaller first, folded, looked up as a pair, and then by their cuts.
     fn sweep<R: Ranking>(&mut self, by: &R, a: Edge, b: Edge, x: Edge, y: Edge) -> Swept
-        requires first { node_of a.number ≤ self.old.core.sources }
-        requires second { node_of b.number ≤ self.old.core.sources }
-        requires room { self.old.core.sources < self.old.core.capacity }
+        requires first { node_of a.number ≤ self.old.core.source.count }
+        requires second { node_of b.number ≤ self.old.core.source.count }
+        requires room { self.old.core.source.count < self.old.core.capacity }
         requires low { x.number ≡ min (map_edge (state_of (image self.old.core)) a.number) (map_edge (state_of (image self.old.core)) b.number) }
         requires high { y.number ≡ max (map_edge (state_of (image self.old.core)) a.number) (map_edge (state_of (image self.old.core)) b.number) }
         ensures gates { Gates (R.Ranking.before by.now) R.Ranking.INPUTS_FIRST (state_of (image self.old.core)) a.number b.number (state_of (image self.new.core)) (swept_in result) }
@@ -98,7 +98,7 @@ impl<'a> Session<'a> {
     {
         let p = self.mapped_edge(a, 0)?;
         let q = self.mapped_edge(b, 1)?;
-        if self.core.sources >= self.core.capacity {
+        if self.core.source.len() >= self.core.capacity {
             return Err(Refusal::AtCapacity(self.core.capacity));
         }
         Ok(self.sweep(by, a, b, p.min(q), p.max(q)))

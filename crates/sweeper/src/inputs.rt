@@ -19,19 +19,16 @@ impl<'a> Session<'a> {
         ensures refused { Refused result (image self.new.core ≡ image self.old.core) }
     {
         let core = &mut self.core;
-        let at = core.sources;
+        let at = core.source.len();
         if at >= core.capacity {
             return Err(Refusal::AtCapacity(core.capacity));
         }
-        let node = core.nodes;
-        let mapped = Edge::new(2 * (node as u16 + 1));
-        core.reduced[node] = ReducedRow::EMPTY;
-        core.source[at] = SourceRow {
+        let mapped = Edge::new(2 * (core.reduced.len() as u16 + 1));
+        let _ = core.reduced.push(ReducedRow::EMPTY);
+        let _ = core.source.push(SourceRow {
             node: Node::Input,
             mapped,
-        };
-        core.nodes = node + 1;
-        core.sources = at + 1;
+        });
         Ok(at as u16 + 1)
     }
 }

@@ -1,5 +1,5 @@
 // The sweeping session: tables that a caller lends, the calls on them, and the laws that every run of calls keeps.
-// `Session` has the calls and the facts that every call needs and keeps; its `Core` has the tables, the counts and the steps of a gate call.
+// `Session` has the calls and the facts that every call needs and keeps; its `Core` has the tables and the steps of a gate call.
 #![tactic(auto)]
 
 mod accepting;

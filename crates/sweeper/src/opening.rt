@@ -8,6 +8,7 @@ use crate::core_state::Core;
 use crate::session::Session;
 use crate::tables::Tables;
 use crate::tally::Tally;
+use lent::LentList;
 use lookup::SlotTable;
 use search::KEPT;
 
@@ -20,10 +21,10 @@ const OUTPUTS: usize = NODES + 1;
 impl<'a> Session<'a> {
     // Opens a session on tables of any length, whatever they hold.
     pub fn open(tables: Tables<'a>) -> Session<'a>
-        ensures source { result.core.source.now ≡ tables.entry.source.now }
-        ensures reduced { result.core.reduced.now ≡ tables.entry.reduced.now }
+        ensures source { result.core.source.places.now ≡ tables.entry.source.now }
+        ensures reduced { result.core.reduced.places.now ≡ tables.entry.reduced.now }
         ensures cuts { result.core.cuts.now ≡ tables.entry.cuts.now }
-        ensures outputs { result.core.outputs.now ≡ take output_limit tables.entry.outputs.now }
+        ensures outputs { result.core.outputs.places.now ≡ take output_limit tables.entry.outputs.now }
         ensures run { Run positions lean (lengths_of tables.entry) [] (state_of (image result.core)) }
     {
         let Tables {
@@ -41,16 +42,13 @@ impl<'a> Session<'a> {
         let rows = OUTPUTS.min(outputs.len());
         Session {
             core: Core {
-                source,
-                reduced,
+                source: LentList::new(source),
+                reduced: LentList::new(reduced),
                 cuts,
                 pairs: SlotTable::open(pairs),
                 keys: SlotTable::open(keys),
-                outputs: &mut outputs[..rows],
+                outputs: LentList::new(&mut outputs[..rows]),
                 capacity: NODES.min(by_rows),
-                sources: 0,
-                nodes: 0,
-                outs: 0,
                 tally: Tally::new(),
             },
         }

@@ -1,6 +1,7 @@
 // What a session tells of itself: its counts, its tally, and the nodes of the reduced graph with the cuts that they keep.
 ghost use Rattle.std.specs.Prelude.{◌≡◌, [], map, length};
 ghost use Rattle.model.specs.Graphs.{at};
+ghost use Rattle.lent.specs.Lists.{listed};
 ghost use Rattle.cuts.specs.Meaning.{meaning};
 ghost use Rattle.model.specs.Graphs.{input as an_input};
 ghost use Rattle.sweeper.specs.Tables.{image, state_of};
@@ -11,13 +12,14 @@ ghost use Rattle.sweeper.specs.Reports.{described, described_in, entry, node_tol
 use crate::session::Session;
 use crate::tally::Tally;
 use cuts::{Cut, Edge};
+use lent::LentList;
 use search::{KEPT, Node, ReducedRow};
 
 // The row of a number, counted from 1, if there is one.
-fn row_at<T: Copy>(rows: &[T], number: usize) -> Option<T>
-    ensures { (d : T) → result ≡ Rattle.sweeper.specs.Reports.row_at d rows.now (length rows.now) number }
+fn row_at<T: Copy>(rows: &LentList<T>, number: usize) -> Option<T>
+    ensures { (d : T) → result ≡ Rattle.sweeper.specs.Reports.row_at d (listed rows.now) (length (listed rows.now)) number }
 {
-    rows.get(number.checked_sub(1)?).copied()
+    rows.get(number.checked_sub(1)?)
 }
 
 impl<'a> Session<'a> {
@@ -31,19 +33,19 @@ impl<'a> Session<'a> {
     pub fn source_nodes(&self) -> usize
         ensures { result ≡ length (state_of (image self.now.core)).source }
     {
-        self.core.sources
+        self.core.source.len()
     }
 
     pub fn reduced_nodes(&self) -> usize
         ensures { result ≡ length (state_of (image self.now.core)).reduced }
     {
-        self.core.nodes
+        self.core.reduced.len()
     }
 
     pub fn outputs(&self) -> usize
         ensures { result ≡ length (state_of (image self.now.core)).outputs }
     {
-        self.core.outs
+        self.core.outputs.len()
     }
 
     pub fn tally(&self) -> Tally
@@ -56,7 +58,7 @@ impl<'a> Session<'a> {
     pub fn node(&self, node: usize) -> Option<ReducedRow>
         ensures { described result ≡ described_in (state_of (image self.now.core)) node }
     {
-        row_at(&self.core.reduced[..self.core.nodes], node)
+        row_at(&self.core.reduced, node)
     }
 
     // The cuts that a reduced node keeps, in kept order; none for what is no node.
@@ -74,20 +76,20 @@ impl<'a> Session<'a> {
     pub fn source_node(&self, node: usize) -> Option<Node>
         ensures { node_told result ≡ entry an_input (state_of (image self.now.core)).source node }
     {
-        row_at(&self.core.source[..self.core.sources], node).map(|row| row.node)
+        row_at(&self.core.source, node).map(|row| row.node)
     }
 
     // The reduced edge of a source node, unless it is the constant or past the last.
     pub fn mapped(&self, node: usize) -> Option<Edge>
         ensures { numbered result ≡ entry 0 (state_of (image self.now.core)).mapped node }
     {
-        row_at(&self.core.source[..self.core.sources], node).map(|row| row.mapped)
+        row_at(&self.core.source, node).map(|row| row.mapped)
     }
 
     // The mapped edge of an output, counted from 1.
     pub fn output_edge(&self, rank: usize) -> Option<Edge>
         ensures { numbered result ≡ entry 0 (state_of (image self.now.core)).outputs rank }
     {
-        row_at(&self.core.outputs[..self.core.outs], rank)
+        row_at(&self.core.outputs, rank)
     }
 }

@@ -1,10 +1,12 @@
-use Rattle.std.proofs.Common.{◌≡◌, ◌+◌, ◌-◌, ◌<◌, ◌≤◌, max, List, [], ◌∷◌, length, get_or, sym, refl, ap, ◌∙◌, subst, ap₂, arith, length-set, rules}
+use Rattle.std.proofs.Common.{◌≡◌, ◌+◌, ◌*◌, ◌-◌, ◌<◌, max, List, [], ◌∷◌, length, get_or, sym, refl, ap, ◌∙◌, subst, ap₂, arith, length-set, rules}
 use Rattle.lookup.specs.Pairs.{pair_meaning}
 use Rattle.lookup.specs.Hash.{hashed_slot}
 use Rattle.lookup.specs.Entries.{Stands, with_entry, taken}
 use Rattle.search.specs.declared.rows.ReducedRow.{ReducedRow}
 use Rattle.search.specs.declared.rows.Node.TheVariants.{Gate}
 use Rattle.sweeper.specs.Tables.{image, with_keys, with_reduced, with_pairs, with_row, used_at, used_once, no_reduced, pair_look, graph_of, Grown, Enters}
+use Rattle.model.specs.Edges.{node_of}
+use Rattle.sweeper.proofs.Lists.{in_use, pushed, with_lists}
 use Rattle.sweeper.proofs.Growth.{grown, row-height-few, row-uses-few, used-other}
 use Rattle.sweeper.proofs.core_state.Core.grow.Goals as goal
 
@@ -29,7 +31,7 @@ use_node-requires c =
     let few = row-uses-few i s c.node-first.result (omega (arith, g.first)) (omega (arith, g.first_known)) in
     record {
       some = omega (arith, g.first);
-      known = subst (λ (l : List ReducedRow). c.node-first.result ≤ length l) (sym same) (omega (arith, g.first_known, g.room, s.room, s.reduced_rows));
+      known = omega (arith, g.first_known, ap (λ j. j.nodes) c.enter_keys.ensures.frame, ap (λ j. j.nodes) c.store_cuts.ensures);
       few = subst (λ (l : List ReducedRow). (get_or l (c.node-first.result - 1) no_reduced).facts.uses < 65535) (sym same) (omega (arith, few, s.few, s.room, s.fewer));
     }
 
@@ -49,7 +51,7 @@ use_node-requires-2 c =
     let other : get_or (used_at a i.reduced) b no_reduced ≡ get_or i.reduced b no_reduced = used-other i.reduced a fits b (λ z. g.apart (omega (arith, g.first, g.second))) in
     record {
       some = omega (arith, g.second);
-      known = subst (λ (l : List ReducedRow). c.node-second.result ≤ length l) (sym same) (omega (arith, length-set i.reduced a (used_once (get_or i.reduced a no_reduced)), g.second_known, g.room, s.room, s.reduced_rows));
+      known = omega (arith, g.second_known, ap (λ j. j.nodes) c.use_node.ensures, ap (λ j. j.nodes) c.enter_keys.ensures.frame, ap (λ j. j.nodes) c.store_cuts.ensures);
       few = subst (λ (l : List ReducedRow). (get_or l b no_reduced).facts.uses < 65535) (sym same) (subst (λ (r : ReducedRow). r.facts.uses < 65535) (sym other) (omega (arith, few, s.few, s.room, s.fewer)));
     }
 
@@ -70,6 +72,20 @@ returns c =
     let e₅ = c.use_node-2.ensures ∙ ap₂ (λ j n. with_reduced j (used_at (n - 1) j.reduced)) e₄ c.node-second.ensures in
     let h = c.max-height.result + 1 in
     let row : ReducedRow = record { node = Gate x y; facts = record { height = h; uses = 0 }; kept = length kept } in
+    let used = image c.use_node-2.new.self in
+    let fits : used.nodes < length used.reduced = omega (
+      arith,
+      ap (λ j. j.nodes) e₅,
+      ap (λ j. length j.reduced) e₅,
+      length-set i.reduced (node_of x.number - 1) (used_once (get_or i.reduced (node_of x.number - 1) no_reduced)),
+      length-set (used_at (node_of x.number - 1) i.reduced) (node_of y.number - 1) (used_once (get_or (used_at (node_of x.number - 1) i.reduced) (node_of y.number - 1) no_reduced)),
+      g.room,
+      s.room,
+      s.reduced_rows,
+    ) in
+    let p = pushed c.use_node-2.new.self.reduced c.push.new.self row c.push.ensures.items c.push.ensures.rest fits in
+    let e₆ : with_lists used used.source used.sources c.push.new.self.places.now c.push.new.self.count used.outputs used.outs ≡ with_row used row = λ j. with_lists used used.source used.sources (p.0 j) (p.1 j) used.outputs used.outs in
+    let number = c.new-edge.ensures ∙ ap (λ n. 2 * (n + 1)) (c.len.ensures ∙ in_use c.args.self.now.reduced) in
     let look = pair_look (graph_of i) in
     let was : (image c.enter_keys.new.self).pairs ≡ i.pairs = ap (λ j. j.pairs) e₂ in
     let key = ap₂ (λ a b. a ∷ (b ∷ [])) c.number.ensures c.number-2.ensures in
@@ -86,7 +102,7 @@ returns c =
     let entered : Enters kept c.new-edge.result.number i.keys keys = subst (λ l. Enters kept c.new-edge.result.number l keys) (ap (λ j. j.keys) e₁) c.enter_keys.ensures.enters in
     let high = ap (λ n. n + 1) (c.max-height.ensures ∙ ap₂ max (c.height_of.ensures ∙ ap (λ n. (get_or i.reduced (n - 1) no_reduced).facts.height) c.node-first.ensures) (c.height_of-2.ensures ∙ ap (λ n. (get_or i.reduced (n - 1) no_reduced).facts.height) c.node-second.ensures)) in
     record {
-      grown = subst (Grown i x.number y.number kept) (sym (ap (λ j. with_row j row) e₅))
-          (grown i s x y kept g c.new-edge.result.number h c.new-edge.ensures high pairs keys paired (c.enter.ensures.room ∙ ap length was) entered);
-      is = c.new-edge.ensures;
+      grown = subst (Grown i x.number y.number kept) (sym (e₆ ∙ ap (λ j. with_row j row) e₅))
+          (grown i s x y kept g c.new-edge.result.number h number high pairs keys paired (c.enter.ensures.room ∙ ap length was) entered);
+      is = number;
     }

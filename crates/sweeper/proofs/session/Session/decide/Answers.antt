@@ -1,4 +1,4 @@
-use Rattle.std.proofs.Common.{take, refl, ap, ◌∙◌, arith}
+use Rattle.std.proofs.Common.{ap, ◌∙◌, arith}
 use Rattle.model.specs.Edges.{node_of, sign_of}
 use Rattle.cuts.specs.Keys.{key_meaning}
 use Rattle.lookup.specs.Hash.{hashed_slot}
@@ -18,9 +18,9 @@ returns g c =
     let q = c.fanin-2.result in
     record {
       is = c.decide.ensures.decision
-          ∙ decides_by (g.R.Ranking.before c.args.by.now) i x y _ (found key_meaning hashed_slot i.keys) (leaf_at (take i.nodes i.reduced))
+          ∙ decides_by (g.R.Ranking.before c.args.by.now) i x y _ (found key_meaning hashed_slot i.keys) (leaf_at c.items.result.now)
           (sign_of p.edge.number) (sign_of q.edge.number) (node_of p.edge.number) (node_of q.edge.number) p.cuts.now q.cuts.now
-          c.requires.places s.keys (leaves-are i s c.args.self.now.reached (take i.nodes i.reduced) refl)
+          c.requires.places s.keys (leaves-are i s c.args.self.now.reached c.items.result.now c.items.ensures)
           (ap (λ e. sign_of e.number) c.fanin.ensures.is) (ap (λ e. sign_of e.number) c.fanin-2.ensures.is) (ap (λ e. node_of e.number) c.fanin.ensures.is) (ap (λ e. node_of e.number) c.fanin-2.ensures.is)
           (kept_few i s (node_of x) p.cuts.now c.fanin.ensures.cuts) c.fanin.ensures.cuts
           (kept_few i s (node_of y) q.cuts.now c.fanin-2.ensures.cuts) c.fanin-2.ensures.cuts;

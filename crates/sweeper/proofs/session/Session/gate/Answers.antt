@@ -1,8 +1,9 @@
-use Rattle.std.proofs.Common.{◌≡◌, Ok, Err, refl, ap₂, min, max, ◌∙◌, rules}
+use Rattle.std.proofs.Common.{◌≡◌, Ok, Err, refl, ap₂, min, max, ◌∙◌, arith, rules}
 use Rattle.model.proofs.Sound.{extends}
 use Rattle.rankings.proofs.Laws.{lawful-from}
 use Rattle.sweeper.specs.Tables.{image}
 use Rattle.sweeper.proofs.Gated.{same_rest, gate-first, gate-second, gate-full}
+use Rattle.sweeper.proofs.Lists.{in_use}
 use Rattle.sweeper.proofs.Mapping.{mapped_parts}
 use Rattle.sweeper.proofs.session.Session.gate.Goals as goal
 
@@ -25,14 +26,14 @@ returns-in_err-q g c =
     let is : c.from_residual-in_err-q.result ≡ Err c.in_err-q.field-0.0 = search rules in
     rw (is, q.1) (record { runs = record { lawful = law; extends = extends (gate-second i _ c.args.a.number c.args.b.number p.0 q.0) }; rest = same_rest i; refused = refl })
 
-pub returns-then-self : goal.returns-then-self
-returns-then-self g c =
+pub returns-then-len-self : goal.returns-then-len-self
+returns-then-len-self g c =
     let m = g.met.R.Ranking in
     let law = lawful-from g.R.Ranking.before g.R.Ranking.INPUTS_FIRST m.irreflexive m.transitive m.ties m.inputs c.args.by.now in
     let i = image c.args.self.now.core in
     let p = mapped_parts i c.args.a 0 (Ok c.in_ok-p.p) c.in_ok-p.ensures in
     let q = mapped_parts i c.args.b 1 (Ok c.in_ok-q.q) c.in_ok-q.ensures in
-    record { runs = record { lawful = law; extends = extends (gate-full i _ c.args.a.number c.args.b.number p.0 q.0 c.if-self.true) }; rest = same_rest i; refused = refl }
+    record { runs = record { lawful = law; extends = extends (gate-full i _ c.args.a.number c.args.b.number p.0 q.0 (omega (arith, c.if-len-self.true, c.len.ensures, in_use c.args.self.now.core.source))) }; rest = same_rest i; refused = refl }
 
 pub sweep-requires : goal.sweep-requires
 sweep-requires g c =
@@ -44,7 +45,7 @@ sweep-requires g c =
     record {
       first = p.0;
       second = q.0;
-      room = c.if-self.false;
+      room = omega (arith, c.if-len-self.false, c.len.ensures, in_use c.args.self.now.core.source);
       low = low ∙ ap₂ min p.1 q.1;
       high = high ∙ ap₂ max p.1 q.1;
     }

@@ -1,7 +1,8 @@
-use Rattle.std.proofs.Common.{sym}
+use Rattle.std.proofs.Common.{sym, ◌∙◌}
 use Rattle.sweeper.specs.Tables.{no_edge}
 use Rattle.sweeper.proofs.Newest.{newest-length}
+use Rattle.sweeper.proofs.Lists.{in_use}
 use Rattle.sweeper.proofs.session.Session.outputs.Goals as goal
 
 pub returns : goal.returns
-returns c = sym (newest-length (λ e. e.number) no_edge c.args.self.now.core.outputs.now c.args.self.now.core.outs)
+returns c = let l = c.args.self.now.core.outputs in c.len.ensures ∙ in_use l ∙ sym (newest-length (λ e. e.number) no_edge l.places.now l.count)
