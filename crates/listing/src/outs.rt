@@ -1,4 +1,4 @@
-// The lines of the outputs.
+// The lines of the outputs. Beside those of the map and not one generic kind: what is left of each is its own lines, getters and keys.
 ghost use Rattle.std.specs.Prelude.{[], ◌∷◌, length};
 ghost use Rattle.model.specs.Reports.{lines_of, out, end};
 ghost use Rattle.std.proofs.Common.{arith};

@@ -12,6 +12,7 @@ use pages::{Short, write_line};
 use sweeper::Session;
 
 // Where a listing stands: the place on the page, and how many lines of the stage's kind are written.
+// Session and page are no part of it: each call is given them as they then are.
 #[derive(Drop)]
 pub struct Stage<S> {
     section: S,

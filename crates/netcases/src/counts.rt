@@ -10,7 +10,7 @@ const GOOD: [u8; 36] = *b"net=1\nin=1\nin=2\nand=2,5\nout=7\nend=3\n";
 // Long enough for what a net of three nodes gives.
 const PAGE: usize = 256;
 
-// How many texts were swept, how many were refused for each reason, and the sum of the lines of refusals.
+// How many texts were swept, how many were refused for each reason, and the sum of the lines of refusals: counts of one pass, which a chain would make several.
 #[derive(Clone, Copy, Default)]
 pub struct Counts {
     swept: u32,

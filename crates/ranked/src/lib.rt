@@ -21,7 +21,7 @@ pub enum RankedBy {
 }
 
 impl RankedBy {
-    // Sweeps a gate by this ranking.
+    // Sweeps a gate by this ranking. A match: each kind is a type with a mark of its own, so no one value stands for all of them.
     pub fn gate(self, session: &mut Session<'_>, a: Edge, b: Edge) -> Result<Swept, Refusal>
         ensures runs { GateExtends (before_of self) (mark_of self) (state_of (image session.old.core)) a.number b.number (state_of (image session.new.core)) (told_swept result) }
         ensures rest { Rest (image session.old.core) (image session.new.core) }

@@ -4,7 +4,7 @@ mod make;
 ghost use Rattle.std.specs.Prelude.{◌≡◌, ◌<◌, ◌≤◌, length};
 ghost use Rattle.model.specs.Sessions.{positions};
 
-// How many leaves a cut has at most; `positions` of the model.
+// How many leaves a cut has at most; `positions` of the model. Neither this crate nor `cuts`, which has that number too, rests on the other.
 pub const MAX_LEAVES: usize = 4;
 
 #[derive(Clone, Copy)]

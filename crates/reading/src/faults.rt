@@ -27,6 +27,7 @@ impl ReadFault {
     }
 }
 
+// Both conversions stand written out: `from_gives` tells the clauses which variant `?` makes, and a derive has no such member.
 impl From<LineFault> for ReadFault {
     ghost from_gives = { λ e r. r ≡ read_fault.Line e };
 

@@ -11,6 +11,7 @@ fn is_taken(call: &Call) -> bool {
     !matches!(call, Call::List | Call::Walk(_) | Call::Cone(_, _, _))
 }
 
+// Stands in both programs that replay: of what is read and printed a library could promise nothing.
 fn main(rt: HostRuntime) -> io::Result<ExitCode> {
     let text = read_text(rt.alloc(), rt.stdin())?;
     let script = read_script(rt.alloc(), text.as_str(), |call| is_taken(call))?;

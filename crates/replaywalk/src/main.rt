@@ -7,6 +7,7 @@ use scripts::{read_script, replay};
 use std::io;
 use std::process::ExitCode;
 
+// Stands in both programs that replay: of what is read and printed a library could promise nothing.
 fn main(rt: HostRuntime) -> io::Result<ExitCode> {
     let text = read_text(rt.alloc(), rt.stdin())?;
     let script = read_script(rt.alloc(), text.as_str(), |_| true)?;

@@ -47,6 +47,7 @@ impl<'k, 't, 'p> Search<'k, 't, 'p> {
     }
 
     /// Joins the cuts of both fanins, those of x in the outer loop, until a pair ends the search.
+    /// Not one function with `search_row`: it goes over that one's rows, with bounds of its own.
     pub(crate) fn search_cuts(&mut self, x: &Fanin, y: &Fanin) -> Option<Existing>
         requires { self.old.found.list.count + most_pairs ≤ places_of self.old.found }
         ensures { told result (listed self.new.found)

@@ -1,6 +1,7 @@
 ghost use Rattle.std.specs.Prelude.{◌≡◌, ℕ, ◌<◌, Bool, false, not, ◌&&◌};
 
 // A kind of signal: a fixed number of lanes, each a truth value.
+// `and` and `complement` and not std's operators, whose traits have preconditions: each clause would then say more.
 pub trait Signal: Copy {
     ghost lanes: { ℕ };
 

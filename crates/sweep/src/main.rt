@@ -76,7 +76,7 @@ fn print_outline(rt: &HostRuntime, outline: Outline) -> io::Result<()> {
     println!(rt; "end={}", outline.end)
 }
 
-// One byte more than the longest input is enough to refuse it.
+// One byte more than the longest input is enough to refuse it. Its arms print what this program alone prints, so it stands here.
 fn run(rt: &HostRuntime) -> io::Result<ExitCode> {
     let text = read_front(rt.alloc(), rt.stdin(), MOST as u64 + 1)?;
     match judge(&text) {

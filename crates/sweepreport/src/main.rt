@@ -11,6 +11,7 @@ use std::process::ExitCode;
 // One byte more than the longest text, so that a longer one is seen to be too long.
 const MOST: u64 = 16385;
 
+// The report is written to a lent page, and its length answered.
 const PAGE: usize = 20480;
 
 fn run(rt: &HostRuntime) -> io::Result<ExitCode> {
@@ -28,7 +29,7 @@ fn run(rt: &HostRuntime) -> io::Result<ExitCode> {
     }
 }
 
-// Writes nothing to standard error, whatever the failure.
+// Writes nothing to standard error, whatever the failure; as in `sweep`, and one line, of which a library could promise nothing.
 fn main(rt: HostRuntime) -> ExitCode {
     run(&rt).unwrap_or(ExitCode::FAILURE)
 }
