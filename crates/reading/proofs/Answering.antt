@@ -7,7 +7,7 @@ use Rattle.lines.proofs.Exact as exact
 use Rattle.lines.proofs.Telling as telling
 use Rattle.lines.proofs.Telling.{Counting}
 use Rattle.reading.specs.declared.faults.ReadFault.{ReadFault}
-use Rattle.reading.specs.Faults.{Stop, stop_in, answer_in}
+use Rattle.reading.specs.Faults.{Stop, answer_in}
 use Rattle.reading.specs.Net.{Follows, Refused, Told}
 use Rattle.reading.specs.Reading.{caller, Read, read_text}
 use Rattle.reading.proofs.Growth.{called_adds}
@@ -32,13 +32,3 @@ module _ (before : Before) (s : State) (text : List ℕ) (r : Result (Unit {0}) 
 
   pub refuses : (e : Stop) (t : State) → Refused before s text e t → (answer_in r ≡ Err e) × (u ≡ t)
   refuses e t h = same_read (record { answer = Err e; state = t }) (exact.text_stopped (caller before) (counting before) s text e t h)
-
--- what an answer tells
-module _ (before : Before) (s : State) (text : List ℕ) (u : State) where
-  pub told-ok : (r : Result (Unit {0}) (TextFault ReadFault)) (x : Unit {0}) → r ≡ Ok x → Told before s text (answer_in r) u → Follows before s text u
-  told-ok (Ok y) x e h = h
-  told-ok (Err d) x e h = let z : ◌≡◌ {A = ℕ} 0 1 = cc in absurd (omega arith)
-
-  pub told-err : (r : Result (Unit {0}) (TextFault ReadFault)) (d : TextFault ReadFault) → r ≡ Err d → Told before s text (answer_in r) u → Refused before s text (stop_in d) u
-  told-err (Ok y) d e h = let z : ◌≡◌ {A = ℕ} 0 1 = cc in absurd (omega arith)
-  told-err (Err b) d e h = let z : b ≡ d = cc in subst (λ x. Refused before s text (stop_in x) u) z h

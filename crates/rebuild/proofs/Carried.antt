@@ -48,13 +48,9 @@ takes f s t r h =
       outputs = r'.outputs;
     }
 
--- the front of a page that a text was written over
-pub front : (text page : List ℕ) (n : ℕ) → n ≡ length text → take n (over text page) ≡ text
-front text page n e = take_at text (drop (length text) page) n (sym e)
-
 -- the front of a page that a text was written over, where the page is given by an equation
 pub read_back : (text page page' : List ℕ) (n : ℕ) → n ≡ length text → page' ≡ over text page → take n page' ≡ text
-read_back text page page' n e p = ap (take n) p ∙ front text page n e
+read_back text page page' n e p = ap (take n) p ∙ take_at text (drop (length text) page) n (sym e)
 
 -- what the texts that a session takes come to
 abbrev pub Accepting : Before → State → List ℕ → Result (Unit {0}) (TextFault ReadFault) → State → Type 0

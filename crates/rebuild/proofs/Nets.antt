@@ -2,6 +2,7 @@
 use Rattle.std.proofs.Common.{◌≡◌, ℕ, suc, ◌+◌, ◌<◌, ◌≤◌, true, ltb, List, [], ◌∷◌, ◌++◌, map, length, Ok, sym, refl, ap, ◌∙◌, subst, ap₂, arith}
 use lib.ListN.{length-map}
 use Rattle.std.specs.List.{flat_map, AllByRecursion}
+use Rattle.std.proofs.lemmas.List.Folds.{flat_map-map}
 use Rattle.std.proofs.lemmas.List.{append_assoc, length_push, map-append, map_push}
 use Rattle.std.proofs.ByRecursion.{All-push, All-append, All-weaker}
 use Rattle.std.proofs.lemmas.Bool.{le-leb, lt-ltb}
@@ -140,13 +141,10 @@ module _ (f : Before) where
   map_same : (s t : State) (os : List ℕ) → t.mapped ≡ s.mapped → map (map_edge s) os ≡ map (map_edge t) os
   map_same s t os e = ap (λ ms. map (λ (x : ℕ). Rattle.model.specs.Edges.signed (Rattle.model.specs.Graphs.at 0 ms (node_of x)) (Rattle.model.specs.Edges.sign_of x)) os) (sym e)
 
-  all-at : (n m : ℕ) (os : List ℕ) → n ≡ m → AllByRecursion (λ e. node_of e ≤ n) os → AllByRecursion (λ e. node_of e ≤ m) os
-  all-at n m os e h = subst (λ k. AllByRecursion (λ x. node_of x ≤ k) os) e h
-
   pub rebuild_net : (g : Graph) (os : List ℕ) (s : State) → s.source ≡ [] → s.outputs ≡ [] → Ordered g → AllByRecursion (λ e. node_of e ≤ length g) os → length g ≤ s.capacity → length os ≤ s.rows_for_outputs → NetRebuilt g os s
   rebuild_net g os s new none ordered known nodes rows =
       let r = rebuild_nodes s new g ordered nodes in
-      let q = name_outputs r.after (r.outputs ∙ none) os (all-at (length g) (length r.after.source) os (sym (ap length r.source)) known) (let z = r.rows in omega (arith, z)) in
+      let q = name_outputs r.after (r.outputs ∙ none) os (subst (λ n. AllByRecursion (λ e. node_of e ≤ n) os) (sym (ap length r.source)) known) (let z = r.rows in omega (arith, z)) in
       record {
         after = q.after;
         calls = (
@@ -163,10 +161,6 @@ module _ (f : Before) where
 oldest-length : {A : Type 0} (xs : List A) → length (oldest xs) ≡ length xs
 oldest-length [] = refl
 oldest-length (x ∷ xs) = length_push (oldest xs) x ∙ (let e = oldest-length xs in omega arith)
-
-joined_in : (ls : List Line) → flat_map written ls ≡ text.text_of (map line_in ls)
-joined_in [] = refl
-joined_in (l ∷ ls) = ap (λ x. written l ++ x) (joined_in ls)
 
 nodes_in : (g : Graph) → map line_in (node_lines 1 (oldest g)) ≡ report.node_lines g
 nodes_in [] = refl
@@ -195,7 +189,7 @@ lines_in g os =
 
 -- the bytes of a graph's net are those of its lines
 pub net_text_lem : (g : Graph) (os : List ℕ) → text.text_of (report.net_lines g os) ≡ flat_map written (net_lines 0 (net_of g os))
-net_text_lem g os = sym (joined_in (net_lines 0 (net_of g os)) ∙ ap text.text_of (lines_in g os))
+net_text_lem g os = sym (ap text.text_of (lines_in g os)) ∙ flat_map-map text.written line_in (net_lines 0 (net_of g os))
 
 -- ---- the numbers
 small-edge : (e n : ℕ) → node_of e ≤ n → n ≤ node_limit → e < 32768

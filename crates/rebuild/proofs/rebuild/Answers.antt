@@ -1,8 +1,7 @@
-use Rattle.std.proofs.Common.{Ok, refl, take, subst}
+use Rattle.std.proofs.Common.{Ok, refl, subst}
 use Rattle.std.proofs.lemmas.Result.{err_from_is_err_and}
 use Rattle.reading.specs.Faults.{stop_in}
 use Rattle.reading.specs.Net.{Follows, Refused}
-use Rattle.reading.proofs.Answering.{told-ok, told-err}
 use Rattle.listing.specs.Sections.{net_text}
 use Rattle.sweeper.specs.States.{state_in}
 use Rattle.rebuild.proofs.Carried.{Accepting, read_back, rebuilds_short, rebuilds_refused, rebuilds_read}
@@ -24,10 +23,8 @@ returns-in_err-read_text-clause-carries g c =
     let u = state_in c.read_text.new.session in
     let w = c.in_ok-length.ensures in
     let p = err_from_is_err_and c.from_residual-in_err-read_text.result c.from_residual-in_err-read_text.ensures.1 in
-    let e = c.in_err-read_text.field-0.0 in
     let back = read_back (net_text s) c.args.page.now c.write_net.new.page c.in_ok-length.length w.0 w.2 in
-    let told = told-err f t (take c.in_ok-length.length c.write_net.new.page) u c.read_text.result e c.in_err-read_text.was c.read_text.ensures.told in
-    rw (p.1, p.2) (w.2, subst (λ x. Refused f t x (stop_in e) u) back told)
+    rw (p.1, p.2) (w.2, subst (λ x. Refused f t x (stop_in c.in_err-read_text.field-0.0) u) back c.in_err-read_text.ensures.told)
 
 pub returns-in_err-read_text-clause-rebuilds : goal.returns-in_err-read_text-clause-rebuilds
 returns-in_err-read_text-clause-rebuilds g c =
@@ -49,8 +46,7 @@ returns g c =
     let w = c.in_ok-length.ensures in
     let back = read_back (net_text s) c.args.page.now c.write_net.new.page c.in_ok-length.length w.0 w.2 in
     let accepts = subst (λ x. Accepting f t x c.read_text.result u) back c.read_text.ensures.accepts in
-    let told = told-ok f t (take c.in_ok-length.length c.write_net.new.page) u c.read_text.result c.in_ok-read_text.field-0 c.in_ok-read_text.was c.read_text.ensures.told in
     record {
-      carries = (w.0, w.2, subst (λ x. Follows f t x u) back told);
+      carries = (w.0, w.2, subst (λ x. Follows f t x u) back c.in_ok-read_text.ensures.told);
       rebuilds = rebuilds_read f s t c.args.page.now (Ok c.in_ok-length.length) u c.args.listed.now.reached c.read_text.result accepts c.in_ok-length.length w.0 refl;
     }
