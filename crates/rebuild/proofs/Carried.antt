@@ -1,9 +1,8 @@
 -- A net that was written, and what reading it gives.
-use Rattle.std.proofs.Common.{◌≡◌, ℕ, ◌<◌, ◌≤◌, List, [], ◌∷◌, map, length, take, drop, Ok, Err, Result, sym, refl, ap, ◌∙◌, subst, arith, take_at}
+use Rattle.std.proofs.Common.{◌≡◌, ℕ, ◌<◌, List, map, length, take, drop, Ok, Err, Result, sym, ap, ◌∙◌, subst, arith, take_at}
 use mathlib.Core.Logic.{∥∥₁_elim}
 use native.Mathlib.Bridge.{le_prop}
 use Rattle.std.specs.List.{flat_map, AllByRecursion, AllByRecursion-prop}
-use Rattle.model.specs.Edges.{node_of}
 use Rattle.model.specs.Rankings.{Before}
 use Rattle.model.specs.Sessions.{State, map_edge}
 use Rattle.lines.specs.Written.{written, Fit}
