@@ -4,7 +4,7 @@
 
 ghost use Rattle.std.specs.Prelude.{[]};
 ghost use Rattle.model.specs.Runs.{Run};
-ghost use Rattle.model.specs.Sessions.{Tables, positions, lean};
+ghost use Rattle.model.specs.Sessions.{Tables as Lengths, positions, lean};
 ghost use Rattle.sweeper.specs.States.{state_in};
 ghost use Rattle.emulator.specs.Loading.{Loads, Loaded};
 
@@ -27,7 +27,7 @@ const PLACES: usize = NODES + 1;
 
 // The exclusive-nor of two inputs as an output, evaluated on all four patterns.
 fn load_into(session: &mut Session<'_>) -> Findings
-    ensures { (t : Tables) → Run positions lean t [] (state_in session.old) → Loads t result }
+    ensures { (t : Lengths) → Run positions lean t [] (state_in session.old) → Loads t result }
 {
     // The answers are let go: the run tells them, and on the design's own tables it refuses none.
     let _ = session.input();
