@@ -19,6 +19,7 @@ fn fanins(session: &Session<'_>, node: usize) -> Option<(usize, usize)>
 }
 
 // Marks the fanins of a marked gate, and answers whether the node is one.
+// Session and marks stay two parameters: the marks are the caller's, whose guard holds them.
 fn spread(session: &Session<'_>, marks: &mut [u8], node: usize) -> bool
     requires room { length (state_in session.now).reduced < length marks.old }
     requires known { node ≤ length (state_in session.now).reduced }

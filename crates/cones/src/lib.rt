@@ -39,5 +39,4 @@ pub fn cone(session: &Session<'_>, e: Edge, marks: &mut [u8], cap: usize) -> Res
 /// A node rests on what a path of fanins leads to, and a cone has the gates among that.
 pub fn cones_are_paths()
     ensures { ConesArePaths }
-{
-}
+{}

@@ -17,7 +17,7 @@ pub(crate) struct Graph<'s, 't> {
 }
 
 impl Graph<'_, '_> {
-    // How many nodes it has, the constant aside.
+    // How many nodes it has, the constant aside. A match on the side here and below: which graph is data of the call.
     pub(crate) fn nodes(&self) -> usize
         ensures count { result ≡ length (nodes_in self.now) }
         ensures few { result ≤ node_limit }

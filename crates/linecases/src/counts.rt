@@ -4,6 +4,7 @@ use nearby::{each_changed, each_shortened};
 use netlist::LineFault;
 use std::fmt;
 
+// What is counted differs from what `netcases` counts of the same texts, and so do the types.
 const GOOD: [u8; 36] = *b"net=1\nin=1\nin=2\nand=2,5\nout=7\nend=3\n";
 
 // How many texts were accepted, and how many were refused for each reason: counts of one pass, which a chain would make several.

@@ -72,6 +72,7 @@ impl<S: Section + Drop> Stage<S> {
             return Ok(false);
         };
         self.at = write_line(page, self.at, line)?;
+        // Counted by hand: lines are asked for one by one.
         self.next += 1;
         Ok(true)
     }

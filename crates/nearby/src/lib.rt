@@ -4,7 +4,7 @@
 ghost use Rattle.std.specs.Prelude.{length};
 ghost use Rattle.nearby.specs.Texts.{changed, shortened, Calls};
 
-// Each byte of the text changed into each other byte.
+// Each byte of the text changed into each other byte. By index: the byte goes to its place in a copy.
 pub fn each_changed<const N: usize, F: FnMut(&[u8])>(text: &[u8; N], mut visit: F)
     requires { F.IsAlwaysCallable visit }
     ensures { Calls F.FnMut visit (changed text.now (length text.now)) }

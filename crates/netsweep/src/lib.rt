@@ -88,6 +88,7 @@ impl From<Short> for Refusal {
 }
 
 // Reads a text of at most the longest length into a new session and writes its report.
+// Six arrays by hand: a struct that holds them would need six const parameters.
 fn sweep_short(text: &[u8], page: &mut [u8]) -> Result<usize, Refusal>
     ensures { Sweeps text.now page.old result page.new }
 {

@@ -9,7 +9,7 @@ use std::str::Split;
 // Longer tables than count for anything are served, up to this length.
 const LONGEST: usize = 131_072;
 
-// How many rows or slots each of the six tables has.
+// How many rows or slots each of the six tables has. The written sessions have a table of their own, which is a constant.
 #[derive(Clone, Copy)]
 pub struct Lengths {
     pub source: usize,

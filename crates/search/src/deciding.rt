@@ -20,7 +20,7 @@ use rankings::Ranking;
 
 /// Decides a gate by the cuts of its fanins: each cut has at most `limit` leaves, `keys` has the edges of known keys,
 /// and row n - 1 is of node n. A new gate's cuts stand in the first places of `kept`.
-// No parameter comes with another elsewhere: a struct of them would be made for this call alone.
+// No three functions take a group of these parameters: a struct would be made for this call alone.
 pub fn decide<R: Ranking>(
     by: &R,
     x: &Fanin,

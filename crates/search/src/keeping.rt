@@ -19,7 +19,7 @@ fn write_cuts(candidates: &[Candidate<Cut>], places: &mut [Cut]) -> usize
     ensures first { take result places.new ≡ map (λ c. c.item) candidates.now }
     ensures rest { drop result places.new ≡ drop result places.old }
 {
-    // By index, since of elements written through `iter_mut` a proof knows nothing.
+    // By index: of elements that are written through a zip a proof knows nothing, and a `for` over one list has not the other.
     for (i, candidate) in candidates.iter().enumerate() {
         places[i] = candidate.item;
     }

@@ -24,7 +24,7 @@ fn facts_of_cut(rows: &[ReducedRow], cut: &Cut) -> CutFacts
 {
     let leaves = cut.leaves();
     let mut facts = [ReducedRow::EMPTY.facts; POSITIONS];
-    // By index, since of elements written through `iter_mut` a proof knows nothing.
+    // By index: of elements that are written through a zip a proof knows nothing, and a `for` over one list has not the other.
     for (i, leaf) in leaves.iter().enumerate() {
         facts[i] = facts_of_leaf(rows, *leaf);
     }

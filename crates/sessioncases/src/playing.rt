@@ -29,7 +29,7 @@ fn agreeing(session: &mut Session, steps: &[Step]) -> usize {
         .count()
 }
 
-// How many answers of a script agree.
+// How many answers of a script agree. Six arrays by hand: a struct that holds them would need six const parameters.
 pub(crate) fn play(script: &Script) -> usize {
     let mut source = [SourceRow::EMPTY; ROWS];
     let mut reduced = [ReducedRow::EMPTY; ROWS];

@@ -14,7 +14,7 @@ use std::{fmt, io};
 // The longest input that is taken.
 const MOST: usize = 16384;
 
-// Why there is no outline.
+// Why there is no outline. Beside that of `netsweep`, whose texts have a session's faults too: they share two numbers and no type.
 #[derive(Clone, Copy, PartialEq, Eq, Debug)]
 enum Refusal {
     // The input is longer than the longest.

@@ -5,3 +5,4 @@ pub mod Runs
 pub mod Reports
 pub mod States
 pub mod Counted
+pub mod Facts

@@ -62,7 +62,7 @@ impl<'a> Core<'a> {
 }
 
 impl<'a> Session<'a> {
-    // Only `sweep` and `make` take a source gate's fanins and the mapped ones together, so the four have no struct of their own.
+    // The two edges of a gate stand as two parameters, as callers have them; only `sweep` and `make` take the mapped ones too, so the four have no struct.
     // The mapped fanins, the smaller first, folded, looked up as a pair, and then by their cuts.
     fn sweep<R: Ranking>(&mut self, by: &R, a: Edge, b: Edge, x: Edge, y: Edge) -> Swept
         requires first { node_of a.number ≤ self.old.core.source.count }

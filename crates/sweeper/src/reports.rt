@@ -68,6 +68,7 @@ impl<'a> Session<'a> {
         let Some(row) = self.node(node) else {
             return &[];
         };
+        // The cut rows of all nodes are one lent table, four to a node.
         let first = KEPT * (node - 1);
         &self.core.cuts[first..first + row.kept]
     }

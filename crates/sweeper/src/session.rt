@@ -1,5 +1,5 @@
 // A sweeping session: the tables, and the facts that every call needs and keeps.
-ghost use Rattle.std.proofs.Props.{props};
+ghost use Rattle.sweeper.specs.Facts.{sound_prop};
 ghost use Rattle.sweeper.specs.Tables.{Sound, image, state_of};
 ghost use Rattle.sweeper.specs.Runs.{Reached};
 
@@ -9,7 +9,7 @@ use crate::core_state::Core;
 pub struct Session<'a> {
     pub(crate) core: Core<'a>,
     // the tables stand for the graphs
-    ghost sound: { Sound (image core) } by { Prim.hlevel props },
+    ghost sound: { Sound (image core) } by { sound_prop (image core) },
     // some run of calls leads here
     ghost reached: { Reached (state_of (image core)) },
 }
