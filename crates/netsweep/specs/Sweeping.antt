@@ -5,7 +5,8 @@ use Rattle.model.specs.Sessions.{State, Tables, positions, lean, opened}
 use Rattle.model.specs.Texts.{report_text}
 use Rattle.model.specs.Runs.{Event, Run}
 use Rattle.model.specs.RunLaws.{Sound}
-use Rattle.reading.specs.declared.faults.TextFault.{TextFault}
+use Rattle.lines.specs.declared.faults.TextFault.{TextFault}
+use Rattle.reading.specs.declared.faults.ReadFault.{ReadFault}
 use Rattle.reading.specs.Faults.{stop_in}
 use Rattle.reading.specs.Net.{Follows, Refused}
 use Rattle.pages.specs.Page.{over}
@@ -41,7 +42,7 @@ pub record Reported (text before : List ℕ) (n : ℕ) (after : List ℕ) : Type
 
 -- why a text of a length that is taken has no report: its first line that is refused, or a page that is shorter than the report
 pub data Declines (text page : List ℕ) (e : Refusal) : Type 0 where
-  stopped : (f : TextFault) (u : State) → Refused by_height fresh text (stop_in f) u → e ≡ Text f → Declines text page e
+  stopped : (f : TextFault ReadFault) (u : State) → Refused by_height fresh text (stop_in f) u → e ≡ Text f → Declines text page e
   too_wide : (u : State) → Swept text u → length page < length (report_text u) → e ≡ Page (record { wanted = length (report_text u) }) → Declines text page e
 
 abbrev pub Sweeps : List ℕ → List ℕ → Result ℕ Refusal → List ℕ → Type 0
