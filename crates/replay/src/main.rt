@@ -3,18 +3,14 @@
 #![tactic(auto)]
 
 use input::read_text;
-use scripts::{Call, read_script, replay};
+use scripts::{Plain, read_script, replay};
 use std::io;
 use std::process::ExitCode;
-
-fn is_taken(call: &Call) -> bool {
-    !matches!(call, Call::List | Call::Walk(_) | Call::Cone(_, _, _))
-}
 
 // Stands in both programs that replay: of what is read and printed a library could promise nothing.
 fn main(rt: HostRuntime) -> io::Result<ExitCode> {
     let text = read_text(rt.alloc(), rt.stdin())?;
-    let script = read_script(rt.alloc(), text.as_str(), |call| is_taken(call))?;
+    let script = read_script(rt.alloc(), text.as_str(), &Plain)?;
     let mut answers = String::new(rt.alloc());
     replay(rt.alloc(), script.calls.as_slice(), &mut answers)?;
     rt.print(answers.as_str())?;

@@ -3,14 +3,14 @@
 #![tactic(auto)]
 
 use input::read_text;
-use scripts::{read_script, replay};
+use scripts::{Every, read_script, replay};
 use std::io;
 use std::process::ExitCode;
 
 // Stands in both programs that replay: of what is read and printed a library could promise nothing.
 fn main(rt: HostRuntime) -> io::Result<ExitCode> {
     let text = read_text(rt.alloc(), rt.stdin())?;
-    let script = read_script(rt.alloc(), text.as_str(), |_| true)?;
+    let script = read_script(rt.alloc(), text.as_str(), &Every)?;
     let mut answers = String::new(rt.alloc());
     replay(rt.alloc(), script.calls.as_slice(), &mut answers)?;
     rt.print(answers.as_str())?;

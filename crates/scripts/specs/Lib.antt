@@ -1,1 +1,2 @@
 pub mod Added
+pub mod Taken

@@ -9,9 +9,11 @@ mod reading;
 mod replaying;
 mod shown;
 mod tables;
+mod taking;
 #[cfg(test)]
 mod tests;
 
 pub use calls::{Call, Lengths, Walk};
-pub use reading::{Script, read_script};
+pub use reading::{Program, Script, read_script};
 pub use replaying::replay;
+pub use taking::{Every, Plain};

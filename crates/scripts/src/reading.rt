@@ -1,9 +1,17 @@
 // A script: its calls up to the first line that is none that its program takes.
-ghost use Rattle.std.specs.Prelude.{◌≡◌, ◌+◌, true, All, IfOk, IfSome, vec_len};
-ghost use Rattle.std.specs.Fn.{FnReturnsAt};
+ghost use Rattle.std.specs.Prelude.{◌≡◌, ◌+◌, Bool, true, All, IfOk, IfSome, vec_len};
+ghost use Rattle.scripts.specs.declared.calls.Call.{Call as Called};
 
 use crate::calls::{Call, read_call};
 use std::alloc::{AllocError, Global};
+
+// What a program takes of the calls that there are.
+pub trait Program {
+    ghost takes: { Called → Bool };
+
+    fn takes(&self, call: &Call) -> bool
+        ensures { result ≡ takes call.now };
+}
 
 #[derive(Drop)]
 pub struct Script {
@@ -12,14 +20,9 @@ pub struct Script {
     pub other: Option<usize>,
 }
 
-// Reads the calls of a text that `takes` answers true for. A call on a session that was never opened is no call.
-pub fn read_script<F: Fn(&Call) -> bool>(
-    heap: Global,
-    text: &str,
-    takes: F,
-) -> Result<Script, AllocError>
-    requires { F.IsAlwaysCallable takes }
-    ensures taken { IfOk result (λ s. All (λ call. FnReturnsAt F.Fn takes call true) s.calls.items) }
+// Reads the calls of a text that the program takes. A call on a session that was never opened is no call.
+pub fn read_script<P: Program>(heap: Global, text: &str, program: &P) -> Result<Script, AllocError>
+    ensures taken { IfOk result (λ s. All (λ call. P.takes call ≡ true) s.calls.items) }
     ensures line { IfOk result (λ s. IfSome s.other (λ n. n ≡ vec_len s.calls + 1)) }
 {
     let mut calls = Vec::new(heap);
@@ -28,7 +31,7 @@ pub fn read_script<F: Fn(&Call) -> bool>(
             return Ok(ended(calls));
         };
         let may_follow = call.opens() || !calls.is_empty();
-        if !may_follow || !takes(&call) {
+        if !may_follow || !program.takes(&call) {
             return Ok(ended(calls));
         }
         calls.push(call)?;

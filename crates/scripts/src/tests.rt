@@ -1,11 +1,11 @@
 // That scripts are read and answered.
-use crate::{Call, read_script, replay};
+use crate::{Every, Plain, read_script, replay};
 use std::test::Fail;
 
 #[test]
 fn all_calls_are_taken(rt: HostRuntime) -> Result<(), Fail> {
     let text = "open 2 2 8 2 8 1\ninput\nwalk source 2 00000000000000FF\nlist\ncone 3 9 9\n";
-    let script = read_script(rt.alloc(), text, |_| true)?;
+    let script = read_script(rt.alloc(), text, &Every)?;
     assert_eq!(rt; script.calls.len(), 5);
     assert_eq!(rt; script.other, None);
     let mut answers = String::from_str(rt.alloc(), "before\n")?;
@@ -19,10 +19,10 @@ fn all_calls_are_taken(rt: HostRuntime) -> Result<(), Fail> {
 #[test]
 fn another_call_ends_the_script(rt: HostRuntime) -> Result<(), Fail> {
     let text = "open 2 2 8 2 8 1\ninput\nlist\ninput\n";
-    let script = read_script(rt.alloc(), text, |call| !matches!(call, Call::List))?;
+    let script = read_script(rt.alloc(), text, &Plain)?;
     assert_eq!(rt; script.calls.len(), 2);
     assert_eq!(rt; script.other, Some(3));
-    let nothing = read_script(rt.alloc(), "input\n", |_| true)?;
+    let nothing = read_script(rt.alloc(), "input\n", &Every)?;
     assert_eq!(rt; nothing.other, Some(1));
     Ok(())
 }
