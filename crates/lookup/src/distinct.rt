@@ -46,6 +46,7 @@ impl<'a, K: Key> DistinctList<'a, K> {
         ensures told { result ≡ is_new (room self.old.list) K.Key.meaning key (listed self.old.list) }
         ensures lender { lender self.new.list ≡ lender self.old.list }
     {
-        !is_in(self.items(), &key) && self.list.push(key)
+        // A full list is known by its length, before any key is compared.
+        self.list.len() < self.list.room() && !is_in(self.items(), &key) && self.list.push(key)
     }
 }
