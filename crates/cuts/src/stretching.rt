@@ -23,7 +23,10 @@ pub(crate) fn stretch(table: Table, old: &[u16], new: &[u16]) -> Table
 {
     let mut word = table;
     let (mut left, mut places) = (old, new);
-    while let ([before @ .., last], [below @ .., leaf]) = (left, places) {
+    // With as many leaves left as places, each leaf lies in its place already.
+    while left.len() < places.len()
+        && let ([before @ .., last], [below @ .., leaf]) = (left, places)
+    {
         if last == leaf {
             word = moved(word, before.len(), below.len());
             left = before;

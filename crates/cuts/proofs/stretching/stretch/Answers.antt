@@ -1,8 +1,8 @@
 use Rattle.std.proofs.Common.{◌<◌, cond, leb, get_or, length, sym, ◌∙◌, arith}
-use Rattle.std.proofs.lemmas.Bool.{le-leb, ltb-false}
+use Rattle.std.proofs.lemmas.Bool.{le-leb, ltb-true, ltb-false}
 use Rattle.std.proofs.lemmas.List.{take_all}
 use Rattle.model.specs.Leaves.{place}
-use Rattle.model.proofs.Stretching.{partly_start, partly_skip, partly_move, stretch_law}
+use Rattle.model.proofs.Stretching.{partly_start, partly_skip, partly_move, partly_done, stretch_law}
 use Rattle.model.proofs.Masked.{loose-rests, agree-rests}
 use Rattle.model.proofs.Places.{within-fewer}
 use Rattle.cuts.proofs.Fronts.{shorter, front_of, last-in}
@@ -62,12 +62,23 @@ loop-left-preserved c =
           (λ some same. c.if-last-leaf.false (last-in left old inv.old some ∙ same ∙ sym (last-in places new inv.new (omega arith)))));
     }
 
-pub returns-in_default : goal.returns-in_default
-returns-in_default c =
+pub returns-after-loop-left : goal.returns-after-loop-left
+returns-after-loop-left c =
     let old = c.args.old.now in
     let new = c.args.new.now in
     let inv = c.loop-left.invariant.partly in
-    let none = c.in_default.len_below in
+    let rests = loose-rests 4 c.args.table (length old) c.requires.loose in
+    stretch_law 4 c.args.table c.loop-left.word old new inv.small
+    (omega (arith, within-fewer old new c.requires.rising.0 c.requires.rising.1 c.requires.within)) rests c.requires.within
+    (partly_done 4 c.args.table old new c.requires.rising.0 c.requires.rising.1 c.requires.within rests
+    (length c.loop-left.left.now) (length c.loop-left.places.now) c.loop-left.word inv (omega arith))
+
+pub returns-then-left-lt1 : goal.returns-then-left-lt1
+returns-then-left-lt1 c =
+    let old = c.args.old.now in
+    let new = c.args.new.now in
+    let inv = c.loop-left.invariant.partly in
+    let none : length c.loop-left.left.now < 1 = omega (arith, ltb-true) in
     let rests = loose-rests 4 c.args.table (length old) c.requires.loose in
     stretch_law 4 c.args.table c.loop-left.word old new inv.small
     (omega (arith, within-fewer old new c.requires.rising.0 c.requires.rising.1 c.requires.within)) rests c.requires.within
