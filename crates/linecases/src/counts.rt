@@ -1,6 +1,6 @@
 // Counts the answers for all texts next to a good one.
 use crate::table::answer;
-use nearby::{each_changed, each_shortened};
+use nearby::{Visitor, each_changed, each_shortened};
 use netlist::LineFault;
 use std::fmt;
 
@@ -33,8 +33,8 @@ impl fmt::Display for Counts {
     }
 }
 
-impl Counts {
-    fn add(&mut self, text: &[u8]) {
+impl Visitor for Counts {
+    fn visit(&mut self, text: &[u8]) {
         let count = match answer(text) {
             Ok(_) => &mut self.accepted,
             Err(refused) => {
@@ -53,13 +53,13 @@ impl Counts {
 // Each byte of the text changed into each other byte.
 pub(crate) fn changed() -> Counts {
     let mut counts = Counts::default();
-    each_changed(&GOOD, |text| counts.add(text));
+    each_changed(&GOOD, &mut counts);
     counts
 }
 
 // Each front of the text.
 pub(crate) fn shortened() -> Counts {
     let mut counts = Counts::default();
-    each_shortened(&GOOD, |text| counts.add(text));
+    each_shortened(&GOOD, &mut counts);
     counts
 }

@@ -1,8 +1,5 @@
 -- Texts next to a text.
 use Rattle.std.specs.Prelude.{ℕ, zero, suc, cond, List, [], ◌∷◌, ◌++◌, take, ◌==◌, slice_index, slice_set}
-use Rattle.std.specs.Fn.{CalledAt, Mut}
-use Rattle.std.specs.Borrow.{Bor}
-use Rattle.std.specs.List.{FoldsTo}
 
 -- the fronts of fewer bytes than a number
 unfoldable pub shortened : List ℕ → ℕ → List (List ℕ)
@@ -18,7 +15,3 @@ changed_at text place (suc b) = changed_at text place b ++ cond (b == slice_inde
 unfoldable pub changed : List ℕ → ℕ → List (List ℕ)
 changed text zero = []
 changed text (suc n) = changed text n ++ changed_at text n 256
-
--- the closure was called at each of the texts, one after another
-abbrev pub Calls : {F : Type 0} → Mut F (Bor (List ℕ) × Unit {0}) (Unit {0}) → F → List (List ℕ) → Type 0
-Calls {F} g f texts = (last : F) × FoldsTo (λ p x q. CalledAt g p x tt q) f texts last

@@ -1,6 +1,6 @@
 // Counts the answers for all texts next to a good one.
 use lines::LineFault;
-use nearby::{each_changed, each_shortened};
+use nearby::{Visitor, each_changed, each_shortened};
 use netsweep::{Refusal, sweep_text};
 use reading::ReadFault;
 use std::fmt;
@@ -52,8 +52,10 @@ impl Counts {
             Refusal::TooLong | Refusal::Page(_) => &mut self.other,
         }
     }
+}
 
-    fn add(&mut self, text: &[u8]) {
+impl Visitor for Counts {
+    fn visit(&mut self, text: &[u8]) {
         let mut page = [0u8; PAGE];
         let count = match sweep_text(text, &mut page) {
             Ok(_) => &mut self.swept,
@@ -69,13 +71,13 @@ impl Counts {
 // Each byte of the text changed into each other byte.
 pub(crate) fn changed() -> Counts {
     let mut counts = Counts::default();
-    each_changed(&GOOD, |text| counts.add(text));
+    each_changed(&GOOD, &mut counts);
     counts
 }
 
 // Each front of the text.
 pub(crate) fn shortened() -> Counts {
     let mut counts = Counts::default();
-    each_shortened(&GOOD, |text| counts.add(text));
+    each_shortened(&GOOD, &mut counts);
     counts
 }

@@ -1,6 +1,11 @@
 // Texts on one line: a slash for each byte 10, `*N` after a line that comes N times, and a percent sign with two hexadecimal digits for any other byte.
 use std::alloc::{AllocError, Global};
 
+// A text up to the first mark: a second mark of its kind, and what follows, is no part of a case.
+pub(crate) fn before(text: &str, mark: char) -> &str {
+    text.split_once(mark).map_or(text, |(front, _)| front)
+}
+
 // What follows a percent sign: a byte in hexadecimal, then bytes as they are.
 fn push_escaped(text: &mut Vec<u8>, part: &str) -> Result<(), AllocError> {
     let Some((digits, rest)) = part.split_at_checked(2) else {
@@ -27,7 +32,7 @@ fn push_line(text: &mut Vec<u8>, line: &str) -> Result<(), AllocError> {
 fn push_lines(text: &mut Vec<u8>, word: &str) -> Result<(), AllocError> {
     let (line, times) = match word.split_once('*') {
         None => (word, 1),
-        Some((line, digits)) => (line, digits.parse::<usize>().unwrap_or(0)),
+        Some((line, digits)) => (line, before(digits, '*').parse::<usize>().unwrap_or(0)),
     };
     for _ in 0..times {
         push_line(text, line)?;

@@ -1,10 +1,7 @@
-use Rattle.std.specs.Fn.{CalledAt}
 use Rattle.std.specs.List.{FoldsTo}
 use Rattle.nearby.specs.Texts.{shortened}
 use Rattle.nearby.proofs.each_shortened.Given as goal
 
--- so far the closure was called at the fronts of fewer bytes
+-- so far the visitor was shown the fronts of fewer bytes
 abbrev pub invariant-loop-n : goal.invariant-loop-n
-invariant-loop-n g l =
-    goal.F-IsAlwaysCallable g l.visit
-    × FoldsTo (λ p x q. CalledAt g.F.FnMut p x tt q) l.fn.visit (shortened l.text l.n) l.visit
+invariant-loop-n g l = FoldsTo g.V.Visitor.visits l.fn.visitor (shortened l.text l.n) l.visitor
