@@ -21,12 +21,16 @@ fn replay_session(
         heap,
         session: tables.open(),
     };
-    answers.push_str(playing.play(&Call::Open(*lengths))?.as_str())?;
+    // One line's memory serves for all answers.
+    let mut line = String::new(heap);
+    playing.play(&Call::Open(*lengths), &mut line)?;
+    answers.push_str(line.as_str())?;
     for call in calls {
         if call.opens() {
             break;
         }
-        answers.push_str(playing.play(call)?.as_str())?;
+        playing.play(call, &mut line)?;
+        answers.push_str(line.as_str())?;
     }
     Ok(())
 }
