@@ -40,7 +40,8 @@ impl Display for Answer<'_> {
             Answer::Node(row, cuts) => {
                 Shown(row).fmt(f)?;
                 for cut in *cuts {
-                    write!(f, " {}", Shown(cut))?;
+                    f.write_str(" ")?;
+                    Shown(cut).fmt(f)?;
                 }
                 Ok(())
             }

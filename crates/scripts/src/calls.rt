@@ -131,6 +131,15 @@ impl Call {
         matches!(self, Call::Open(_))
     }
 
+    // Room for the signals of a walk and no more, since each walk of a script keeps its own.
+    fn make_room(&mut self, words: Words<'_>) -> Result<(), AllocError> {
+        if let Call::Walk(walk) = self {
+            walk.signals
+                .reserve_exact(words.take_while(|word| word.len() == 16).count())?;
+        }
+        Ok(())
+    }
+
     // One word more, which is a signal of a walk: whether the call takes it.
     fn take(&mut self, word: &str) -> Result<bool, AllocError> {
         let Call::Walk(walk) = self else {
@@ -153,6 +162,7 @@ pub(crate) fn read_call(heap: Global, line: &str, walks: bool) -> Result<Option<
     let Some(mut call) = call_at_start(heap, &mut words, walks) else {
         return Ok(None);
     };
+    call.make_room(words.clone()?)?;
     for word in words {
         if !call.take(word)? {
             return Ok(None);

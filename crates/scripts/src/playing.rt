@@ -76,12 +76,11 @@ impl<'s> Playing<'s> {
         Ok(told)
     }
 
-    // The answer or the refusal, in place of what the line held.
-    pub(crate) fn play(&mut self, call: &Call, line: &mut String) -> Result<(), AllocError> {
-        line.clear();
+    // Adds the answer or the refusal as a line.
+    pub(crate) fn play(&mut self, call: &Call, lines: &mut String) -> Result<(), AllocError> {
         match self.answer(call) {
-            Ok(answer) => write!(line, "{answer}\n"),
-            Err(Fault::Declined(why)) => write!(line, "{}\n", Shown(&why)),
+            Ok(answer) => write!(lines, "{answer}\n"),
+            Err(Fault::Declined(why)) => write!(lines, "{}\n", Shown(&why)),
             Err(Fault::Memory(e)) => Err(e),
         }
     }
