@@ -1,12 +1,36 @@
-// What the programs read of their input.
+// What the programs read of their input, and what they fail with.
 #![tactic(auto)]
 
 ghost use Rattle.std.specs.Prelude.{◌≡◌, IfOk, IfSome, take, string_bytes};
 ghost use Rattle.std.specs.Str.Lossy.{utf8_lossy};
+ghost use Rattle.input.specs.declared.Failure.TheVariants.{Io, Memory};
 
-use std::alloc::Global;
+use std::alloc::{AllocError, Global};
 use std::io;
 use std::io::Read;
+
+// What a program ends with, in its own words, where reading, writing or memory fails.
+#[derive(Debug, Drop)]
+pub enum Failure {
+    Io(io::Error),
+    Memory,
+}
+
+impl From<io::Error> for Failure {
+    ghost from_gives = { λ cause e. e ≡ Io cause };
+
+    fn from(e: io::Error) -> Failure {
+        Failure::Io(e)
+    }
+}
+
+impl From<AllocError> for Failure {
+    ghost from_gives = { λ _ e. e ≡ Memory };
+
+    fn from(_e: AllocError) -> Failure {
+        Failure::Memory
+    }
+}
 
 // The front of an input, of `most` bytes or of all that there are.
 pub fn read_front<R: Read + Drop>(heap: Global, input: R, most: u64) -> io::Result<Vec<u8>>

@@ -5,11 +5,10 @@
 mod counts;
 mod packed;
 
-use input::read_text;
+use input::{Failure, read_text};
 use netsweep::sweep_text;
 use packed::{before, unpack};
 use std::alloc::{AllocError, Global};
-use std::io;
 
 // As long as the page of the program that sweeps.
 const PAGE: usize = 20480;
@@ -33,7 +32,7 @@ fn agrees(heap: Global, case: &str) -> Result<bool, AllocError> {
     answers(heap, text.as_slice(), want.as_slice())
 }
 
-fn main(rt: HostRuntime) -> io::Result<()> {
+fn main(rt: HostRuntime) -> Result<(), Failure> {
     let input = read_text(rt.alloc(), rt.stdin())?;
     let cases = input.as_str().lines().count();
     let mut differing = 0usize;
@@ -45,5 +44,6 @@ fn main(rt: HostRuntime) -> io::Result<()> {
     }
     println!(rt; "nets={cases} agreed={}", cases.saturating_sub(differing))?;
     println!(rt; "changed: {}", counts::changed())?;
-    println!(rt; "shortened: {}", counts::shortened())
+    println!(rt; "shortened: {}", counts::shortened())?;
+    Ok(())
 }

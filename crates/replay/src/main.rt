@@ -2,15 +2,16 @@
 // A line of another form, as the calls list, walk and cone here are, ends the program with status 1 and the line's number on standard error.
 #![tactic(auto)]
 
-use input::read_text;
+use input::{Failure, read_text};
 use scripts::{Plain, read_script, replay};
-use std::io;
 use std::process::ExitCode;
 
 // Stands in both programs that replay: of what is read and printed a library could promise nothing.
-fn main(rt: HostRuntime) -> io::Result<ExitCode> {
+fn main(rt: HostRuntime) -> Result<ExitCode, Failure> {
     let text = read_text(rt.alloc(), rt.stdin())?;
     let script = read_script(rt.alloc(), text.as_str(), &Plain)?;
+    // The calls stand without the text, whose room the answers can have.
+    drop(text);
     let mut answers = String::new(rt.alloc());
     replay(rt.alloc(), script.calls.as_slice(), &mut answers)?;
     rt.print(answers.as_str())?;

@@ -5,10 +5,11 @@ use search::ReducedRow;
 use signals::Patterns;
 use std::alloc::AllocError;
 use std::fmt;
+use std::fmt::Display;
 use sweeper::{Refusal, Swept, Tally};
 
 #[derive(Drop)]
-pub(crate) enum Answer {
+pub(crate) enum Answer<'a> {
     Capacity(usize),
     Input(u16),
     Swept(Swept),
@@ -17,7 +18,7 @@ pub(crate) enum Answer {
     Tally(Tally),
     Constant,
     // An input or a gate of the reduced graph, and the cuts that it keeps.
-    Node(ReducedRow, Vec<Cut>),
+    Node(ReducedRow, &'a [Cut]),
     // The report, without the byte 10 at its end.
     List(String),
     // The signals of the filled places.
@@ -26,7 +27,7 @@ pub(crate) enum Answer {
     Cone(usize),
 }
 
-impl fmt::Display for Answer {
+impl Display for Answer<'_> {
     fn fmt<W: fmt::Write>(&self, f: &mut fmt::Formatter<W>) -> fmt::Result {
         match self {
             Answer::Capacity(nodes) => write!(f, "capacity={nodes}"),
@@ -34,12 +35,13 @@ impl fmt::Display for Answer {
             Answer::Swept(s) => write!(f, "{}={}", s.outcome, s.edge.number()),
             Answer::Output(e) => write!(f, "output={}", e.number()),
             Answer::Map(e) => write!(f, "map={}", e.number()),
-            Answer::Tally(tally) => write!(f, "{}", Shown(tally)),
+            Answer::Tally(tally) => Shown(tally).fmt(f),
             Answer::Constant => write!(f, "node=constant height=0 uses=0"),
             Answer::Node(row, cuts) => {
-                write!(f, "{}", Shown(row))?;
-                for cut in cuts {
-                    write!(f, " {}", Shown(cut))?;
+                Shown(row).fmt(f)?;
+                for cut in *cuts {
+                    f.write_str(" ")?;
+                    Shown(cut).fmt(f)?;
                 }
                 Ok(())
             }

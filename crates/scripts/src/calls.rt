@@ -110,7 +110,7 @@ fn walk_at_start(heap: Global, words: &mut Words<'_>) -> Option<Walk> {
     })
 }
 
-fn call_at_start(heap: Global, words: &mut Words<'_>) -> Option<Call> {
+fn call_at_start(heap: Global, words: &mut Words<'_>, walks: bool) -> Option<Call> {
     match words.next()? {
         "open" => Some(Call::Open(six_lengths(words)?)),
         "input" => Some(Call::Input),
@@ -120,7 +120,7 @@ fn call_at_start(heap: Global, words: &mut Words<'_>) -> Option<Call> {
         "tally" => Some(Call::Tally),
         "node" => Some(Call::Node(number(words)?)),
         "list" => Some(Call::List),
-        "walk" => Some(Call::Walk(walk_at_start(heap, words)?)),
+        "walk" if walks => Some(Call::Walk(walk_at_start(heap, words)?)),
         "cone" => Some(Call::Cone(edge(words)?, length(words)?, number(words)?)),
         _ => None,
     }
@@ -129,6 +129,15 @@ fn call_at_start(heap: Global, words: &mut Words<'_>) -> Option<Call> {
 impl Call {
     pub(crate) fn opens(&self) -> bool {
         matches!(self, Call::Open(_))
+    }
+
+    // Room for the signals of a walk and no more, since each walk of a script keeps its own.
+    fn make_room(&mut self, words: Words<'_>) -> Result<(), AllocError> {
+        if let Call::Walk(walk) = self {
+            walk.signals
+                .reserve_exact(words.take_while(|word| word.len() == 16).count())?;
+        }
+        Ok(())
     }
 
     // One word more, which is a signal of a walk: whether the call takes it.
@@ -144,15 +153,16 @@ impl Call {
     }
 }
 
-// The call of a line, which byte 10 ends.
-pub(crate) fn read_call(heap: Global, line: &str) -> Result<Option<Call>, AllocError> {
+// The call of a line, which byte 10 ends. Where walks are no calls, the signals of one are not read.
+pub(crate) fn read_call(heap: Global, line: &str, walks: bool) -> Result<Option<Call>, AllocError> {
     let Some(line) = line.strip_suffix('\n') else {
         return Ok(None);
     };
     let mut words = line.split(' ');
-    let Some(mut call) = call_at_start(heap, &mut words) else {
+    let Some(mut call) = call_at_start(heap, &mut words, walks) else {
         return Ok(None);
     };
+    call.make_room(words.clone()?)?;
     for word in words {
         if !call.take(word)? {
             return Ok(None);

@@ -20,14 +20,12 @@ pub(crate) struct Playing<'s> {
 
 impl<'s> Playing<'s> {
     // Node 0 is the constant, which no row stands for.
-    fn node(&self, node: usize) -> Result<Answer, Fault> {
+    fn node(&self, node: usize) -> Result<Answer<'_>, Fault> {
         if node == 0 {
             return Ok(Answer::Constant);
         }
         let row = self.session.node(node).ok_or(Refusal::NoNode(0))?;
-        let mut cuts = Vec::new(self.heap);
-        cuts.extend_from_slice(self.session.kept_cuts(node))?;
-        Ok(Answer::Node(row, cuts))
+        Ok(Answer::Node(row, self.session.kept_cuts(node)))
     }
 
     // How long the whole listing is: no page at all is refused with that length.
@@ -38,14 +36,14 @@ impl<'s> Playing<'s> {
         }
     }
 
-    fn list(&self) -> Result<Answer, Fault> {
+    fn list(&self) -> Result<Answer<'_>, Fault> {
         let mut page = filled(self.heap, 0u8, self.report_length())?;
         let _ = write_report(&self.session, page.as_mut_slice());
         let _ = page.pop();
         Ok(Answer::List(String::from_utf8_lossy(self.heap, page.as_slice())?))
     }
 
-    fn walk(&self, call: &Walk) -> Result<Answer, Fault> {
+    fn walk(&self, call: &Walk) -> Result<Answer<'_>, Fault> {
         let mut places = filled(self.heap, Patterns { word: 0 }, call.places)?;
         let count = walk(
             &self.session,
@@ -57,12 +55,12 @@ impl<'s> Playing<'s> {
         Ok(Answer::Walk(places))
     }
 
-    fn cone(&self, e: Edge, marks: usize, cap: usize) -> Result<Answer, Fault> {
+    fn cone(&self, e: Edge, marks: usize, cap: usize) -> Result<Answer<'_>, Fault> {
         let mut marks = filled(self.heap, 7u8, marks)?;
         Ok(Answer::Cone(cone(&self.session, e, marks.as_mut_slice(), cap)?))
     }
 
-    fn answer(&mut self, call: &Call) -> Result<Answer, Fault> {
+    fn answer(&mut self, call: &Call) -> Result<Answer<'_>, Fault> {
         let told = match call {
             Call::Open(_) => Answer::Capacity(self.session.capacity()),
             Call::Input => Answer::Input(self.session.input()?),
@@ -78,11 +76,11 @@ impl<'s> Playing<'s> {
         Ok(told)
     }
 
-    // The answer or the refusal, as its line.
-    pub(crate) fn play(&mut self, call: &Call) -> Result<String, AllocError> {
+    // Adds the answer or the refusal as a line.
+    pub(crate) fn play(&mut self, call: &Call, lines: &mut String) -> Result<(), AllocError> {
         match self.answer(call) {
-            Ok(answer) => format!(in self.heap; "{answer}\n"),
-            Err(Fault::Declined(why)) => format!(in self.heap; "{}\n", Shown(&why)),
+            Ok(answer) => write!(lines, "{answer}\n"),
+            Err(Fault::Declined(why)) => write!(lines, "{}\n", Shown(&why)),
             Err(Fault::Memory(e)) => Err(e),
         }
     }

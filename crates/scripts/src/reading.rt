@@ -1,6 +1,7 @@
 // A script: its calls up to the first line that is none that its program takes.
-ghost use Rattle.std.specs.Prelude.{◌≡◌, ◌+◌, Bool, true, All, IfOk, IfSome, vec_len};
+ghost use Rattle.std.specs.Prelude.{◌≡◌, ◌+◌, Bool, true, false, All, IfOk, IfSome, vec_len};
 ghost use Rattle.scripts.specs.declared.calls.Call.{Call as Called};
+ghost use Rattle.scripts.specs.Taken.{TakesNoWalk};
 
 use crate::calls::{Call, read_call};
 use std::alloc::{AllocError, Global};
@@ -11,6 +12,13 @@ pub trait Program {
 
     fn takes(&self, call: &Call) -> bool
         ensures { result ≡ takes call.now };
+
+    // Whether some walk may be taken; where none is, the signals in its line are not read.
+    fn takes_walks(&self) -> bool
+        ensures { result ≡ false → TakesNoWalk takes }
+    {
+        true
+    }
 }
 
 #[derive(Drop)]
@@ -27,7 +35,7 @@ pub fn read_script<P: Program>(heap: Global, text: &str, program: &P) -> Result<
 {
     let mut calls = Vec::new(heap);
     for line in text.split_inclusive('\n') {
-        let Some(call) = read_call(heap, line)? else {
+        let Some(call) = read_call(heap, line, program.takes_walks())? else {
             return Ok(ended(calls));
         };
         let may_follow = call.opens() || !calls.is_empty();

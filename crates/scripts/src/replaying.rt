@@ -7,6 +7,21 @@ use crate::playing::Playing;
 use crate::tables::Tables;
 use std::alloc::{AllocError, Global};
 
+// Once so many bytes of lines are ready they go to the answers, all at once since that is cheaper.
+const PAGE: usize = 4096;
+
+// Adds the lines to the answers where they fill a page.
+fn add_page(lines: &mut String, answers: &mut String) -> Result<(), AllocError>
+    ensures { AddsTo (string_bytes answers.old) (string_bytes answers.new) }
+{
+    if lines.len() < PAGE {
+        return Ok(());
+    }
+    answers.push_str(lines.as_str())?;
+    lines.clear();
+    Ok(())
+}
+
 // One session: the answers of its opening and of the calls up to the next opening.
 fn replay_session(
     heap: Global,
@@ -21,14 +36,13 @@ fn replay_session(
         heap,
         session: tables.open(),
     };
-    answers.push_str(playing.play(&Call::Open(*lengths))?.as_str())?;
-    for call in calls {
-        if call.opens() {
-            break;
-        }
-        answers.push_str(playing.play(call)?.as_str())?;
+    let mut lines = String::new(heap);
+    playing.play(&Call::Open(*lengths), &mut lines)?;
+    for call in calls.iter().take_while(|call| !call.opens()) {
+        playing.play(call, &mut lines)?;
+        add_page(&mut lines, answers)?;
     }
-    Ok(())
+    answers.push_str(lines.as_str())
 }
 
 // Adds the answers of all calls, a line for each.

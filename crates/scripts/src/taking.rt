@@ -15,6 +15,10 @@ impl Program for Plain {
     fn takes(&self, call: &Call) -> bool {
         !matches!(call, Call::List | Call::Walk(_) | Call::Cone(_, _, _))
     }
+
+    fn takes_walks(&self) -> bool {
+        false
+    }
 }
 
 #[derive(Clone, Copy)]
