@@ -27,7 +27,14 @@ fn bit(word: usize, place: usize) -> bool {
 
 /// How many of the leaves come before a node.
 fn position(leaves: &[bool; NODES], node: usize) -> usize {
-    leaves.iter().take(node).filter(|leaf| **leaf).count()
+    // By index over all nodes: a known length is counted side by side, and a chain took twice the instructions.
+    let mut place = 0usize;
+    for n in 0..NODES {
+        if n < node && leaves[n] {
+            place = place.wrapping_add(1);
+        }
+    }
+    place
 }
 
 fn mark(leaves: &mut [bool; NODES], cut: &Cut) {

@@ -5,6 +5,7 @@ use lookup::{FaninPair, Slot};
 use search::ReducedRow;
 
 // Tables of any length, whatever they hold.
+#[derive(Drop)]
 pub struct Tables<'a> {
     pub source: &'a mut [SourceRow],
     pub reduced: &'a mut [ReducedRow],
