@@ -135,7 +135,7 @@ impl Call {
     fn make_room(&mut self, words: Words<'_>) -> Result<(), AllocError> {
         if let Call::Walk(walk) = self {
             walk.signals
-                .reserve_exact(words.take_while(|word| word.len() == 16).count())?;
+                .reserve_exact(words.take_while(|word| patterns(word).is_some()).count())?;
         }
         Ok(())
     }
