@@ -23,12 +23,12 @@ ordered_by : (side : Side) (s : State) → Consistent s → Ordered (graph_of si
 ordered_by source_graph s k = k.ordered
 ordered_by reduced_graph s k = k.reduced-ordered
 
--- of gate n + 1, which is told as node m
-pub told-earlier : (side : Side) (s : State) (r : Reached s) (n m x y : ℕ) → m ≡ n + 1 → Some (gate x y) ≡ entry input (graph_of side s) m → (node_of x ≤ n) × (node_of y ≤ n)
-told-earlier side s r n m x y is told = (∥∥₁_elim r le_prop λ l. (both (run_consistent l.run)).0, ∥∥₁_elim r le_prop λ l. (both (run_consistent l.run)).1)
+-- of gate n + 1
+pub told-earlier : (side : Side) (s : State) (r : Reached s) (n x y : ℕ) → Some (gate x y) ≡ entry input (graph_of side s) (n + 1) → (node_of x ≤ n) × (node_of y ≤ n)
+told-earlier side s r n x y told = (∥∥₁_elim r le_prop λ l. (both (run_consistent l.run)).0, ∥∥₁_elim r le_prop λ l. (both (run_consistent l.run)).1)
   where
     both : Consistent s → (node_of x ≤ n) × (node_of y ≤ n)
-    both k = let here = entry-some (graph_of side s) n (gate x y) (told ∙ ap (entry input (graph_of side s)) is) in fanins-earlier (graph_of side s) (ordered_by side s k) n x y here.0 here.1
+    both k = let here = entry-some (graph_of side s) n (gate x y) told in fanins-earlier (graph_of side s) (ordered_by side s k) n x y here.0 here.1
 
 pub same_inputs : (s : State) → Reached s → inputs s.reduced ≡ inputs s.source
 same_inputs s r = ∥∥₁_elim r (ℕ_set _ _) λ l. (run_consistent l.run).same_inputs

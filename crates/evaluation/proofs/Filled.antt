@@ -87,8 +87,8 @@ module _ {S : Type 0} (k : Kind S) (given : List S) (g : Graph) (before : List S
       below : inputs (front g n) < length given
       below = omega (arith, more-inputs input told, front-few g (n + 1))
 
-      some-left : 0 < length left
-      some-left = omega (arith, ap length so.remains, length-drop (inputs (front g n)) given, below)
+      pub some_left : 0 < length left
+      some_left = omega (arith, ap length so.remains, length-drop (inputs (front g n)) given, below)
 
       split : (v : S) (more : List S) → left ≡ v ∷ more → v ∷ more ≡ ranked k given (inputs (front g n)) ∷ drop (inputs (front g n) + 1) given
       split v more e = sym e ∙ so.remains ∙ drop_more given (inputs (front g n)) k.low below
@@ -96,37 +96,30 @@ module _ {S : Type 0} (k : Kind S) (given : List S) (g : Graph) (before : List S
     rest_more : (v : S) → drop (n + 1 + 1) (set xs (n + 1) v) ≡ drop (n + 1 + 1) before
     rest_more v = drop-set-lt (n + 1 + 1) xs (n + 1) v (omega arith) ∙ sym (drop-drop 1 (n + 1) xs) ∙ ap (drop 1) so.rest ∙ drop-drop 1 (n + 1) before
 
-    pub some_left : (m : ℕ) → m ≡ n + 1 → Some input ≡ entry input g m → length given ≡ inputs g → 0 < length left
-    some_left m is at_m all = some-left (at_m ∙ ap (entry input g) is) all
+    pub reaching_input : (v : S) (more : List S) → Some input ≡ entry input g (n + 1) → length given ≡ inputs g → left ≡ v ∷ more → n + 1 < length xs
+        → Reaching k given g before (n + 1) more (set xs (n + 1) v)
+    reaching_input v more told all e room =
+        let here = entry-some g n input told in
+        let parts = split told all v more e in
+        let first : v ≡ ranked k given (inputs (front g n)) = cc in
+        let others : more ≡ drop (inputs (front g n) + 1) given = cc in
+        record {
+          known = omega (arith, here.0);
+          remains = others ∙ ap (λ r. drop r given) (sym (more-inputs input told));
+          filled = filled_more k (ranked k given) g n here.0 xs v room so.filled (first ∙ sym (next-input k (ranked k given) g n here.0 here.1));
+          rest = rest_more v;
+        }
 
-    -- node m, which is the next
-    module _ (m next : ℕ) (is : m ≡ n + 1) (on : next ≡ m) where
-      pub reaching_input : (v : S) (more : List S) → Some input ≡ entry input g m → length given ≡ inputs g → left ≡ v ∷ more → m < length xs
-          → Reaching k given g before next more (set xs m v)
-      reaching_input v more at_m all e room =
-          let told : Some input ≡ entry input g (n + 1) = at_m ∙ ap (entry input g) is in
-          let here = entry-some g n input told in
-          let parts = split told all v more e in
-          let first : v ≡ ranked k given (inputs (front g n)) = cc in
-          let others : more ≡ drop (inputs (front g n) + 1) given = cc in
-          rw (on, is) record {
-            known = omega (arith, here.0);
-            remains = others ∙ ap (λ r. drop r given) (sym (more-inputs input told));
-            filled = filled_more k (ranked k given) g n here.0 xs v (omega arith) so.filled (first ∙ sym (next-input k (ranked k given) g n here.0 here.1));
-            rest = rest_more v;
-          }
-
-      pub reaching_gate : (v p q : S) (x y : ℕ) → Some (gate x y) ≡ entry input g m → node_of x ≤ n → node_of y ≤ n → m < length xs
-          → v ≡ k.meet p q → p ≡ edge_over k xs x → q ≡ edge_over k xs y → Reaching k given g before next left (set xs m v)
-      reaching_gate v p q x y at_m hx hy room e ep eq =
-          let told : Some (gate x y) ≡ entry input g (n + 1) = at_m ∙ ap (entry input g) is in
-          let here = entry-some g n (gate x y) told in
-          rw (on, is) record {
-            known = omega (arith, here.0);
-            remains = so.remains ∙ ap (λ r. drop r given) (let z : inputs (front g n) ≡ inputs (front g (n + 1)) = omega (arith, more-inputs (gate x y) told) in z);
-            filled = filled_more k (ranked k given) g n here.0 xs v (omega arith) so.filled (e ∙ ap₂ k.meet ep eq ∙ sym (next-gate k (ranked k given) g n here.0 xs so.filled x y hx hy here.1));
-            rest = rest_more v;
-          }
+    pub reaching_gate : (v p q : S) (x y : ℕ) → Some (gate x y) ≡ entry input g (n + 1) → node_of x ≤ n → node_of y ≤ n → n + 1 < length xs
+        → v ≡ k.meet p q → p ≡ edge_over k xs x → q ≡ edge_over k xs y → Reaching k given g before (n + 1) left (set xs (n + 1) v)
+    reaching_gate v p q x y told hx hy room e ep eq =
+        let here = entry-some g n (gate x y) told in
+        record {
+          known = omega (arith, here.0);
+          remains = so.remains ∙ ap (λ r. drop r given) (let z : inputs (front g n) ≡ inputs (front g (n + 1)) = omega (arith, more-inputs (gate x y) told) in z);
+          filled = filled_more k (ranked k given) g n here.0 xs v room so.filled (e ∙ ap₂ k.meet ep eq ∙ sym (next-gate k (ranked k given) g n here.0 xs so.filled x y hx hy here.1));
+          rest = rest_more v;
+        }
 
 -- a node that is told, by its kind
 pub told_as : (o : Option NodeKind) (x nd : NodeKind) (e : Option Node) → o ≡ Some x → x ≡ nd → node_told o ≡ e → Some (node_in nd) ≡ e

@@ -27,12 +27,12 @@ impl Graph<'_, '_> {
         places[0] = S::falsity();
         let mut left = given.iter();
         // Each number up to the last has a node, and there is a signal for each input.
-        for n in 1..=self.nodes() {
-            let signal = match self.node(n).unwrap() {
+        for n in 0..self.nodes() {
+            let signal = match self.node(n + 1).unwrap() {
                 Node::Input => *left.next().unwrap(),
                 Node::Gate(a, b) => edge_at(places, a).and(edge_at(places, b)),
             };
-            places[n] = signal;
+            places[n + 1] = signal;
         }
     }
 }

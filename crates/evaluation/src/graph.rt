@@ -49,7 +49,10 @@ impl Graph<'_, '_> {
     pub(crate) fn inputs(&self) -> usize
         ensures { result ≡ inputs (nodes_in self.now) }
     {
-        (1..=self.nodes()).filter(|n| self.is_input(*n)).count()
+        // From 0 on, so that no step tests for the constant; a sum of 0s and 1s, so that none branches.
+        (0..self.nodes())
+            .map(|n| usize::from(self.is_input(n + 1)))
+            .sum()
     }
 
     // How many places a walk fills, if there are enough.
