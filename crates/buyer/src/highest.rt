@@ -14,11 +14,10 @@ pub struct ByHighest;
 fn highest_leaf(cut: &CutFacts) -> u16
     ensures { result ≡ highest (facts_of cut.now) }
 {
-    cut.leaves()
-        .iter()
-        .map(|leaf| leaf.height)
-        .max()
-        .unwrap_or(0)
+    cut.leaves().iter().fold(
+        0,
+        |top, leaf| if top < leaf.height { leaf.height } else { top },
+    )
 }
 
 impl Ranking for ByHighest {

@@ -1,8 +1,6 @@
-use Rattle.std.proofs.Common.{rules, ◌≡◌, ℕ, max, List, [], ◌∷◌, map, fold, ap, ◌∙◌, arith}
-use Rattle.std.proofs.lemmas.Iterator.{YieldsList-from_slice, YieldsList-from_map}
-use Rattle.std.proofs.lemmas.Iterator.Consumers.{reduce_from_yields_List}
-use Rattle.std.proofs.lemmas.List.Folds.{max_of_map}
-use Rattle.std.specs.Option.{unwrap_or}
+use Rattle.std.proofs.Common.{rules, tests, ◌≡◌, ℕ, max, List, [], ◌∷◌, map, fold, ap, arith}
+use Rattle.std.proofs.lemmas.Iterator.{YieldsList-from_slice}
+use Rattle.std.proofs.lemmas.Iterator.Consumers.{fold_from_yields_List}
 use Rattle.rankings.specs.declared.facts.LeafFacts.{LeafFacts}
 use Rattle.rankings.specs.Facts.{leaf_of}
 use Rattle.buyer.specs.Highest.{highest}
@@ -16,7 +14,5 @@ over n (x ∷ xs) = let e = over (max n x.height) xs in omega (arith, e)
 pub returns : goal.returns
 returns c =
     let xs = c.leaves.result.now in
-    let top = λ (x : LeafFacts). x.height in
-    let h = reduce_from_yields_List _ _ c.max.result c.max.ensures.ran (YieldsList-from_map _ top (YieldsList-from_slice xs cc) c.map.ensures.closure (λ x r q k. search rules)) in
-    let all = c.unwrap_or.ensures ∙ ap (λ o. unwrap_or o 0) h ∙ max_of_map top xs in
-    omega (arith, all, over 0 xs, ap highest c.leaves.ensures.is)
+    let h = fold_from_yields_List _ (λ a x. max a x.height) 0 c.fold.result c.fold.ensures.ran (YieldsList-from_slice xs c.iter.ensures.rest) (λ a x b q k. search (rules, tests)) in
+    omega (arith, h, over 0 xs, ap highest c.leaves.ensures.is)
