@@ -131,13 +131,11 @@ impl Call {
         matches!(self, Call::Open(_))
     }
 
-    // Room for the signals of a walk and no more, since each walk of a script keeps its own.
-    fn make_room(&mut self, words: Words<'_>) -> Result<(), AllocError> {
+    // Gives back the room that the signals of a walk don't need, since each walk of a script keeps its own.
+    fn shrink(&mut self) {
         if let Call::Walk(walk) = self {
-            walk.signals
-                .reserve_exact(words.take_while(|word| patterns(word).is_some()).count())?;
+            walk.signals.shrink_to_fit();
         }
-        Ok(())
     }
 
     // One word more, which is a signal of a walk: whether the call takes it.
@@ -162,11 +160,11 @@ pub(crate) fn read_call(heap: Global, line: &str, walks: bool) -> Result<Option<
     let Some(mut call) = call_at_start(heap, &mut words, walks) else {
         return Ok(None);
     };
-    call.make_room(words.clone()?)?;
     for word in words {
         if !call.take(word)? {
             return Ok(None);
         }
     }
+    call.shrink();
     Ok(Some(call))
 }
